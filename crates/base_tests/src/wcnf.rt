@@ -1,0 +1,201 @@
+use mp_logic::{Limits, NoMemory};
+use mp_text::Bytes;
+use mp_wcnf::{Form, ReadError, one_meaning, read, write};
+use std::alloc::Global;
+use std::test::Fail;
+
+/// What is written of a text that was read within the limits of the program.
+fn rewritten(alloc: Global, text: &[u8], form: Form) -> Result<Bytes, ReadError> {
+    let instance = read(alloc, text, &Limits::program())?;
+    Ok(write(alloc, &instance, form, 0)?)
+}
+
+#[test]
+fn reads_and_writes(rt: HostRuntime) -> Result<(), Fail> {
+    let rows: [(&[u8], &[u8]); 16] = [
+        (b"", b"c offset 0\np wcnf 0 0 1\n"),
+        (b"c only\n", b"c offset 0\np wcnf 0 0 1\n"),
+        (
+            b"p wcnf 2 3 10\n10 1 0\n12 -1 2 0\n9 -2 0\n",
+            b"c offset 0\np wcnf 2 3 10\n10 1 0\n10 -1 2 0\n9 -2 0\n",
+        ),
+        (b"p wcnf 1 1\n4 1 0\n", b"c offset 0\np wcnf 1 1 5\n4 1 0\n"),
+        (
+            b"p wcnf 1 1 0\n7 1 0\n",
+            b"c offset 0\np wcnf 1 1 8\n7 1 0\n",
+        ),
+        (
+            b"h 1\r\nc mid\r\n-2 0\r\n2 2 0",
+            b"c offset 0\np wcnf 2 2 3\n3 1 -2 0\n2 2 0\n",
+        ),
+        (
+            b"9223372036854775807 1 0\n",
+            b"c offset 0\np wcnf 1 1 9223372036854775808\n9223372036854775807 1 0\n",
+        ),
+        (
+            b"h 8388607 0\n",
+            b"c offset 0\np wcnf 8388607 1 1\n1 8388607 0\n",
+        ),
+        (
+            b"\th\t1 0 2 -1 0\n",
+            b"c offset 0\np wcnf 1 2 3\n3 1 0\n2 -1 0\n",
+        ),
+        (b"007 01 -02 00\n", b"c offset 0\np wcnf 2 1 8\n7 1 -2 0\n"),
+        (b"h 0 4 0", b"c offset 0\np wcnf 0 2 5\n5 0\n4 0\n"),
+        (
+            b"c x\n\np wcnf 3 9 2\nc y\n2 1 0 1 1 0\n",
+            b"c offset 0\np wcnf 3 2 2\n2 1 0\n1 1 0\n",
+        ),
+        (b"0 1 0\n", b"c offset 0\np wcnf 1 1 1\n0 1 0\n"),
+        (
+            b"1 2 0 h 1 0\n3 0",
+            b"c offset 0\np wcnf 2 3 5\n5 1 0\n1 2 0\n3 0\n",
+        ),
+        (
+            b"p wcnf 2 1 00\n0 2 2 0",
+            b"c offset 0\np wcnf 2 1 1\n0 2 2 0\n",
+        ),
+        (b"p wcnf 0 0", b"c offset 0\np wcnf 0 0 1\n"),
+    ];
+    for (place, (text, want)) in rows.iter().enumerate() {
+        match rewritten(rt.alloc(), text, Form::P) {
+            Ok(bytes) => assert_eq!(rt; bytes.items(), *want, "at {place}"),
+            Err(error) => assert!(rt; false, "{error} at {place}"),
+        }
+    }
+    match rewritten(rt.alloc(), b"p wcnf 4 9 3 2 -1 0 3 1 2 0", Form::H) {
+        Ok(_) => assert!(rt; false),
+        Err(error) => assert_eq!(rt; error, ReadError::Syntax { line: 1 }),
+    }
+    match rewritten(rt.alloc(), b"p wcnf 4 9 3\n2 -1 0 3 1 2 0", Form::H) {
+        Ok(bytes) => assert_eq!(rt; bytes.items(), b"c offset 0\nh 1 2 0\n2 -1 0\n".as_slice()),
+        Err(error) => assert!(rt; false, "{error}"),
+    }
+    Ok(())
+}
+
+/// The program's limits, but for clauses, literals and the sum of weights.
+fn few(clauses: u64, literals: u64, weight: u64) -> Limits {
+    Limits {
+        clauses,
+        literals,
+        weight,
+        ..Limits::program()
+    }
+}
+
+#[test]
+fn refuses_the_first_fault(rt: HostRuntime) {
+    let all = Limits::program();
+    let rows: [(&[u8], Limits, ReadError); 36] = [
+        (b"3 1 0\nh 1 2\n", all, ReadError::Syntax { line: 2 }),
+        (b"h 1\n\n\n", all, ReadError::Syntax { line: 3 }),
+        (b"h -0 1 0\n", all, ReadError::Syntax { line: 1 }),
+        (b"c\nh 1 x 0", all, ReadError::Syntax { line: 2 }),
+        (b"h 1 0\n%\n", all, ReadError::Syntax { line: 2 }),
+        (b"h 1 0\np wcnf 1 1 5\n", all, ReadError::Syntax { line: 2 }),
+        (b"p cnf 1 1\n1 0\n", all, ReadError::Syntax { line: 1 }),
+        (b"p\n", all, ReadError::Syntax { line: 1 }),
+        (b"\nc\np wcnf\n\n\n", all, ReadError::Syntax { line: 3 }),
+        (b"\n\np wcnf 1\n1 1 0\n", all, ReadError::Syntax { line: 3 }),
+        (b"p wcnf x 1\n", all, ReadError::Syntax { line: 1 }),
+        (b"p wcnf 1 x\n", all, ReadError::Syntax { line: 1 }),
+        (b"p wcnf 1 1 x\n", all, ReadError::Syntax { line: 1 }),
+        (b"p wcnf 1 1 2 3\n", all, ReadError::Syntax { line: 1 }),
+        (b"p wcnf 1 1 2\nh 1 0\n", all, ReadError::Syntax { line: 2 }),
+        (b"p wcnf 1 1 2 1\n", all, ReadError::Syntax { line: 1 }),
+        (
+            b"p wcnf 340282366920938463463374607431768211456 1\n",
+            all,
+            ReadError::Syntax { line: 1 },
+        ),
+        (
+            b"340282366920938463463374607431768211456 1 0\n",
+            all,
+            ReadError::Syntax { line: 1 },
+        ),
+        (
+            b"340282366920938463463374607431768211455 1 0\n",
+            all,
+            ReadError::TooHeavy { line: 1 },
+        ),
+        (
+            b"9223372036854775807 1 0\n1 2 0\n",
+            all,
+            ReadError::TooHeavy { line: 2 },
+        ),
+        (
+            b"h 8388608 0\n",
+            all,
+            ReadError::TooManyVariables { line: 1 },
+        ),
+        (
+            b"h\n-8388608 x",
+            all,
+            ReadError::TooManyVariables { line: 2 },
+        ),
+        (
+            b"p wcnf 8388608 0\n",
+            all,
+            ReadError::TooManyVariables { line: 1 },
+        ),
+        (
+            b"p wcnf 8388608\n",
+            all,
+            ReadError::TooManyVariables { line: 1 },
+        ),
+        (
+            b"p wcnf 340282366920938463463374607431768211455",
+            all,
+            ReadError::TooManyVariables { line: 1 },
+        ),
+        (b"h 1 0\nh 1 0\n", few(1, 9, 9), ReadError::TooManyClauses),
+        (b"h 1 0\nx", few(1, 9, 9), ReadError::Syntax { line: 2 }),
+        (b"h 1 0\n10 1 0\n", few(1, 9, 9), ReadError::TooManyClauses),
+        (b"0", few(0, 9, 9), ReadError::TooManyClauses),
+        (b"h 1 2 0\n", few(9, 1, 9), ReadError::TooManyLiterals),
+        (
+            b"h 1 0 h 0 2 2 0\n",
+            few(9, 1, 9),
+            ReadError::TooManyLiterals,
+        ),
+        (
+            b"h 1 -8388608\n",
+            few(9, 1, 9),
+            ReadError::TooManyVariables { line: 1 },
+        ),
+        (b"h 1\n2x", few(9, 1, 9), ReadError::Syntax { line: 2 }),
+        (
+            b"4 0 5 0\n1 0\n",
+            few(9, 9, 9),
+            ReadError::TooHeavy { line: 2 },
+        ),
+        (
+            b"p wcnf 1 1 8\n7 0 8 0\n3 0",
+            few(9, 9, 9),
+            ReadError::TooHeavy { line: 3 },
+        ),
+        (b"10", few(9, 9, 9), ReadError::TooHeavy { line: 1 }),
+    ];
+    for (place, (text, limits, want)) in rows.iter().enumerate() {
+        match read(rt.alloc(), text, limits) {
+            Ok(_) => assert!(rt; false, "accepted at {place}"),
+            Err(error) => assert_eq!(rt; error, *want, "at {place}"),
+        }
+    }
+}
+
+#[test]
+fn shows_its_errors(rt: HostRuntime) -> Result<(), Fail> {
+    let text = String::format(
+        rt.alloc(),
+        format_args!(
+            "{}, {}",
+            ReadError::Syntax { line: 4 },
+            ReadError::from(NoMemory)
+        ),
+    )?;
+    assert_eq!(rt; text.as_str(), "line 4 can't be read, out of memory");
+    one_meaning();
+    Ok(())
+}

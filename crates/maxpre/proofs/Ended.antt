@@ -1,0 +1,146 @@
+-- How the top call ends, from how its run ended and the line that was said.
+use Rattle.std.proofs.Common.{◌≡◌, ◌≢◌, ◌⊎◌, ◌≤◌, ◌<◌, ◌+◌, ◌-◌, ℕ, List, [], ◌∷◌, ◌++◌, length, take, Option, Some, None, Result, Ok, Err, IfSome, refl, ap, sym, ◌∙◌, subst, arith, inl, inr}
+use Rattle.std.proofs.lemmas.Option.{IfSome_then}
+use Rattle.mp_host.specs.World.{World, Asked, Rose, SameButInput, emptied, after_told}
+use Rattle.mp_wcnf.specs.declared.writer.Form.{Form}
+use Rattle.mp_wcnf.specs.declared.writer.Form.TheVariants as forms
+use Rattle.maxpre.specs.declared.status.Status.{Status}
+use Rattle.maxpre.specs.declared.status.Status.TheVariants as status
+use Rattle.maxpre.specs.declared.refusal.Refusal.{Refusal}
+use Rattle.maxpre.specs.declared.refusal.Refusal.TheVariants as refusals
+use Rattle.maxpre.specs.Outcomes.{AskedFirst, Logged, IsUntouched, Wrote, WrotePart, Refuses, RoseBy, EndsUnused}
+use Rattle.maxpre.specs.Refusals.{line_of, status_of, faults_of, IsFixed}
+use Rattle.maxpre.specs.Running.{HasPreprocessedPart, IsPreprocessRefusal, IsBlameless, IsGoodEnd, IsGoodInstance, RunsPreprocess, EndsPreprocess}
+use Rattle.maxpre.specs.Words.{IsPreprocess, IsFormChosen, form_word, preprocess_words}
+
+never_ok : (r : Refusal) → status_of r ≢ status.Ok
+never_ok refusals.NoMemory q = absurd cc
+never_ok refusals.Usage q = absurd cc
+never_ok refusals.ReadFault q = absurd cc
+never_ok refusals.WriteFault q = absurd cc
+never_ok (refusals.Instance line) q = absurd cc
+never_ok (refusals.Limit exceeded) q = absurd cc
+never_ok (refusals.Map line) q = absurd cc
+never_ok (refusals.Solution line) q = absurd cc
+never_ok refusals.TooLong q = absurd cc
+
+-- a status names its refusal, where that has no place
+status_names : (r : Refusal) → (status_of r ≡ status.WriteFault → r ≡ refusals.WriteFault) × (status_of r ≡ status.ReadFault → r ≡ refusals.ReadFault) × (status_of r ≡ status.Usage → r ≡ refusals.Usage)
+status_names refusals.NoMemory = (λ q. absurd cc, λ q. absurd cc, λ q. absurd cc)
+status_names refusals.Usage = (λ q. absurd cc, λ q. absurd cc, λ q. refl)
+status_names refusals.ReadFault = (λ q. absurd cc, λ q. refl, λ q. absurd cc)
+status_names refusals.WriteFault = (λ q. refl, λ q. absurd cc, λ q. absurd cc)
+status_names (refusals.Instance line) = (λ q. absurd cc, λ q. absurd cc, λ q. absurd cc)
+status_names (refusals.Limit exceeded) = (λ q. absurd cc, λ q. absurd cc, λ q. absurd cc)
+status_names (refusals.Map line) = (λ q. absurd cc, λ q. absurd cc, λ q. absurd cc)
+status_names (refusals.Solution line) = (λ q. absurd cc, λ q. absurd cc, λ q. absurd cc)
+status_names refusals.TooLong = (λ q. absurd cc, λ q. absurd cc, λ q. absurd cc)
+
+good_end : (r : Refusal) → IsBlameless r → IsGoodEnd (status_of r)
+good_end refusals.NoMemory h = tt
+good_end refusals.ReadFault h = tt
+good_end refusals.WriteFault h = tt
+good_end refusals.Usage h = absurd h
+good_end refusals.TooLong h = absurd h
+good_end (refusals.Instance line) h = absurd h
+good_end (refusals.Limit exceeded) h = absurd h
+good_end (refusals.Map line) h = absurd h
+good_end (refusals.Solution line) h = absurd h
+
+-- what was said is the refusal itself, where it has no place
+said_itself : (refusal : Refusal) (old new : World) (ended : Status) (h : Refuses refusal old new ended) → IsFixed refusal → h.said ≡ refusal
+said_itself refusal old new ended h fixed = elim h.is [ inl e ↦ e | inr n ↦ absurd (n.1 fixed) ]
+
+-- what was said without memory isn't a fault nor wrong words
+said_named : (refusal said : Refusal) → (said ≡ refusal) ⊎ ((said ≡ refusals.NoMemory) × (IsFixed refusal → ⊥)) → said ≢ refusals.NoMemory → said ≡ refusal
+said_named refusal said is n = elim is [ inl e ↦ e | inr m ↦ absurd (n m.0) ]
+
+pub said_write_fault : (refusal : Refusal) (old new : World) (ended : Status) → Refuses refusal old new ended → ended ≡ status.WriteFault → refusal ≡ refusals.WriteFault
+said_write_fault refusal old new ended h q =
+    let is = (status_names h.said).0 (sym h.status ∙ q) in
+    let other : h.said ≢ refusals.NoMemory = λ n. let clash : refusals.WriteFault ≡ refusals.NoMemory = sym is ∙ n in absurd cc in
+    sym (said_named refusal h.said h.is other) ∙ is
+
+pub said_read_fault : (refusal : Refusal) (old new : World) (ended : Status) → Refuses refusal old new ended → ended ≡ status.ReadFault → refusal ≡ refusals.ReadFault
+said_read_fault refusal old new ended h q =
+    let is = (status_names h.said).1 (sym h.status ∙ q) in
+    let other : h.said ≢ refusals.NoMemory = λ n. let clash : refusals.ReadFault ≡ refusals.NoMemory = sym is ∙ n in absurd cc in
+    sym (said_named refusal h.said h.is other) ∙ is
+
+pub said_usage : (refusal : Refusal) (old new : World) (ended : Status) → Refuses refusal old new ended → ended ≡ status.Usage → refusal ≡ refusals.Usage
+said_usage refusal old new ended h q =
+    let is = (status_names h.said).2 (sym h.status ∙ q) in
+    let other : h.said ≢ refusals.NoMemory = λ n. let clash : refusals.Usage ≡ refusals.NoMemory = sym is ∙ n in absurd cc in
+    sym (said_named refusal h.said h.is other) ∙ is
+
+pub usage_said : (refusal : Refusal) (old new : World) (ended : Status) → Refuses refusal old new ended → refusal ≡ refusals.Usage → ended ≡ status.Usage
+usage_said refusal old new ended h q =
+    let Fixed : Refusal → Type 0 = IsFixed in
+    let is = said_itself refusal old new ended h (subst Fixed (sym q) tt) in
+    h.status ∙ ap status_of (is ∙ q)
+
+part_on : (old mid new : World) (map out : List ℕ) → IsUntouched mid new → WrotePart old mid map out → WrotePart old new map out
+part_on old mid new map out same h = record {
+  map_count = h.map_count;
+  out_count = h.out_count;
+  on_map = elim h.on_map [ inl e ↦ inl (same.map ∙ e) | inr e ↦ inr (same.map ∙ e) ];
+  on_out = same.out ∙ h.on_out;
+  order = h.order;
+}
+
+preprocessed_part_on : (techniques : List ℕ) (form : Form) (old mid new : World) (text : List ℕ) → IsUntouched mid new → HasPreprocessedPart techniques form old mid text → HasPreprocessedPart techniques form old new text
+preprocessed_part_on techniques form old mid new text same h = (h.0, h.1, h.2, part_on old mid new h.0 h.1 same h.3)
+
+pub logged_on : (old mid new : World) (line : List ℕ) → mid.log ≡ old.log → Logged mid new line → Logged old new line
+logged_on old mid new line same h = record { count = h.count; is = h.is ∙ ap (λ (l : Option (List ℕ)). after_told l (take h.count line)) same }
+
+untouched_on : (old mid new : World) → SameButInput old mid → IsUntouched mid new → IsUntouched old new
+untouched_on old mid new frame same = record {
+  out = same.out ∙ ap (λ (w : World). w.out) frame;
+  map = same.map ∙ ap (λ (w : World). w.map) frame;
+  has_map = same.has_map ∙ ap (λ (w : World). w.has_map) frame;
+}
+
+pub ends_done : (file techniques map : List ℕ) (form : Form) (old new : World) (asked asked' : Option (List (List ℕ))) → RunsPreprocess file techniques map form old new asked asked' (Ok tt)
+    → EndsPreprocess file techniques map form old new asked asked' status.Ok
+ends_done file techniques map form old new asked asked' h = record {
+  done = λ q. h.done;
+  part = λ q. absurd cc;
+  refused = λ n. absurd (n refl);
+  silent = λ q. h.log;
+  untouched = λ n m. absurd (n refl);
+  accepts = IfSome_then (old.file file) h.accepts (λ text f good. tt);
+  names = h.names;
+  all_names = λ q. h.all_names;
+}
+
+pub ends_refused : (file techniques map : List ℕ) (form : Form) (old mid new : World) (asked asked' : Option (List (List ℕ))) (refusal : Refusal) (ended : Status)
+    → RunsPreprocess file techniques map form old mid asked asked' (Err refusal) → Refuses refusal mid new ended → IsUntouched mid new
+    → EndsPreprocess file techniques map form old new asked asked' ended
+ends_refused file techniques map form old mid new asked asked' refusal ended h said same =
+    let not_ok : ended ≢ status.Ok = λ q. never_ok said.said (sym said.status ∙ q) in
+    record {
+      done = λ q. absurd (not_ok q);
+      part = λ q.
+          let is = said_write_fault refusal mid new ended said q in
+          IfSome_then (old.file file) (h.part (ap (λ (r : Refusal). let e : Result (Unit {0}) Refusal = Err r in e) is)) (λ text p. preprocessed_part_on techniques form old mid new text same p);
+      refused = λ n. (
+        said.said,
+        sym said.status,
+        logged_on old mid new (line_of said.said) h.log said.line,
+        let Cause : Refusal → Type 0 = λ r. IsPreprocessRefusal r (old.file file) in
+            elim said.is [ inl e ↦ subst Cause (sym e) h.refused | inr m ↦ subst Cause (sym m.0) tt ],
+      );
+      silent = λ q. absurd (not_ok q);
+      untouched = λ n m.
+          let other : refusal ≢ refusals.WriteFault = λ q.
+          let Fixed : Refusal → Type 0 = IsFixed in
+          m (said.status ∙ ap status_of (said_itself refusal mid new ended said (subst Fixed (sym q) tt) ∙ q)) in
+          untouched_on old mid new (h.untouched other) same;
+      accepts = IfSome_then (old.file file) h.accepts (λ text f good.
+          let Good : Status → Type 0 = IsGoodEnd in
+          let blameless : Refusal → Type 0 = IsBlameless in
+          subst Good (sym said.status) (elim said.is [ inl e ↦ good_end said.said (subst blameless (sym e) (f good)) | inr m ↦ good_end said.said (subst blameless (sym m.0) tt) ]));
+      names = h.names;
+      all_names = λ q. absurd (not_ok q);
+    }

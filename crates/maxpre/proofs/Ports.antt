@@ -1,0 +1,39 @@
+-- What the writes of a run leave on the ports.
+use Rattle.maxpre.specs.declared.refusal.Refusal.TheVariants as refusals
+use Rattle.std.proofs.Common.{◌≡◌, ◌⊎◌, ◌≤◌, ◌<◌, inl, inr, ◌++◌, ap, sym, refl, arith, take, length, ℕ, List, [], Option}
+use Rattle.std.proofs.lemmas.List.{take_all}
+use Rattle.std.proofs.Math.Seq.{take-length}
+use Rattle.mp_host.specs.World.{World, mapped, sent}
+use Rattle.mp_host.specs.declared.host.Port.TheVariants as ports
+use Rattle.mp_host.proofs.Worlds.{after_told-nil}
+use Rattle.maxpre.specs.Outcomes.{SaidLine, Wrote, WrotePart, IsUntouched, Logged, Refuses}
+use Rattle.maxpre.specs.Refusals.{line_of, status_of, IsFixed}
+use Rattle.maxpre.specs.declared.status.Status.{Status}
+use Rattle.maxpre.specs.declared.refusal.Refusal.{Refusal}
+
+-- a whole line is a front of it
+pub said_all : (old new : World) (line : List ℕ) → new ≡ sent old ports.Log line → SaidLine old new line
+said_all old new line is = record { count = length line; is = rw (is, take-length) refl }
+
+-- both texts are whole
+pub wrote_all : (old w1 w2 w3 : World) (map out : List ℕ) → w1 ≡ mapped old → w2 ≡ sent w1 ports.Map map → w3 ≡ sent w2 ports.Out out → Wrote old w3 map out
+wrote_all old w1 w2 w3 map out a b c = rw (c, b, a) (record { on_map = refl; on_out = refl })
+
+-- no map was created
+pub wrote_none : (old w1 : World) (map out : List ℕ) → w1 ≡ old → WrotePart old w1 map out
+wrote_none old w1 map out a = rw a (record { map_count = 0; out_count = 0; on_map = inl refl; on_out = sym (after_told-nil old.out); order = λ h. absurd (omega arith) })
+
+-- a front of the map was written
+pub wrote_map : (old w1 w2 : World) (map out : List ℕ) (n : ℕ) → w1 ≡ mapped old → w2 ≡ sent w1 ports.Map (take n map) → WrotePart old w2 map out
+wrote_map old w1 w2 map out n a b = rw (b, a) (record { map_count = n; out_count = 0; on_map = inr refl; on_out = sym (after_told-nil old.out); order = λ h. absurd (omega arith) })
+
+-- the whole map and a front of the output were written
+pub wrote_out : (old w1 w2 w3 : World) (map out : List ℕ) (n : ℕ) → w1 ≡ mapped old → w2 ≡ sent w1 ports.Map map → w3 ≡ sent w2 ports.Out (take n out) → WrotePart old w3 map out
+wrote_out old w1 w2 w3 map out n a b c = rw (c, b, a) (record { map_count = length map; out_count = n; on_map = inr (rw (take_all (length map) map (omega arith)) refl); on_out = refl; order = λ h. omega arith })
+
+-- a front of a line on the log is a front on the log
+pub refuses : (refusal said : Refusal) (old new : World) (ended : Status) → (said ≡ refusal) ⊎ ((said ≡ refusals.NoMemory) × (IsFixed refusal → ⊥)) → ended ≡ status_of said → SaidLine old new (line_of said) → Refuses refusal old new ended
+refuses refusal said old new ended is status line = record { said = said; is = is; status = status; line = record { count = line.count; is = rw line.is refl } }
+
+pub untouched : (old new : World) (line : List ℕ) → SaidLine old new line → IsUntouched old new
+untouched old new line said = rw said.is (record { out = refl; map = refl; has_map = refl })

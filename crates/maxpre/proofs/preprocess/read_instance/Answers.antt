@@ -1,0 +1,14 @@
+use Rattle.std.proofs.Common.{◌≢◌, subst, sym}
+use Rattle.mp_logic.specs.declared.limits.Limits.{Limits}
+use Rattle.mp_wcnf.specs.Refusals.{IsRefused}
+use Rattle.mp_wcnf.specs.declared.errors.ReadError.TheVariants as errors
+use Rattle.maxpre.specs.declared.refusal.Refusal.{Refusal}
+use Rattle.maxpre.specs.Preprocessing.{IsInstanceRefusal}
+use Rattle.maxpre.proofs.Refused.{refused_text}
+use Rattle.maxpre.proofs.preprocess.read_instance.Goals as goal
+
+pub returns-in-Err-clause-refused : goal.returns-in-Err-clause-refused
+returns-in-Err-clause-refused c =
+    let At : Limits → Type 0 = λ m. c.in-Err.error ≢ errors.NoMemory → IsRefused m c.args.text.now c.in-Err.error in
+    let Says : Refusal → Type 0 = IsInstanceRefusal c.args.text.now in
+    subst Says (sym c.refusal_of.ensures) (refused_text c.args.text.now c.in-Err.error (subst At c.limits.ensures c.in-Err.ensures.refused))

@@ -1,0 +1,7 @@
+pub mod Outcomes
+pub mod Preprocessing
+pub mod Presenting
+pub mod Refusals
+pub mod Running
+pub mod Simplifying
+pub mod Words

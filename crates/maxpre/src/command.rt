@@ -1,0 +1,113 @@
+//! Reading the words of a command.
+ghost use Rattle.std.specs.Prelude.{◌≡◌, ◌≢◌, ◌≤◌, ◌↔◌, ℕ, List, [], ◌∷◌, ◌++◌, IfSome, IfNone, IsTrue, length, drop};
+ghost use Rattle.mp_wcnf.specs.declared.writer.Form.{Form};
+ghost use Rattle.maxpre.specs.Words.{IsOperand, IsTechniques, IsFormChosen, IsPreprocess, form_word, preprocess_words};
+
+use crate::words::Words;
+use mp_wcnf::Form;
+
+/// The words of `preprocess`.
+#[derive(Clone, Copy, Debug)]
+pub struct PreprocessWords<'a> {
+    pub file: &'a str,
+    pub techniques: &'a str,
+    pub map: &'a str,
+    pub form: Form,
+}
+
+/// Reads the words as a command to preprocess; none exactly where they are not one.
+pub fn read_preprocess(words: &Words) -> Option<PreprocessWords<'_>>
+    ensures some { IfSome result (λ p. IsPreprocess words.now p.file.now p.techniques.now p.map.now p.form) }
+    ensures none { IfNone result ((file techniques map : List ℕ) (form : Form) → IsPreprocess words.now file techniques map form → ⊥) }
+{
+    let (file, techniques, map) = match first_four(words) {
+        Some(found) => found,
+        None => return None,
+    };
+    let form = match form_chosen(words) {
+        Some(found) => found,
+        None => return None,
+    };
+    if is_operand(file) && is_techniques(techniques) && !map.is_empty() {
+        return Some(PreprocessWords {
+            file,
+            techniques,
+            map,
+            form,
+        });
+    }
+    None
+}
+
+// What the first four words name.
+fn first_four(words: &Words) -> Option<(&str, &str, &str)>
+    ensures some { IfSome result (λ p. words.now ≡ preprocess_words p.0.now p.1.now p.2.now (drop 4 words.now)) }
+    ensures none { IfNone result ((file techniques map : List ℕ) (rest : List (List ℕ)) → words.now ≡ preprocess_words file techniques map rest → ⊥) }
+{
+    if words.len() < 4 || words.text(0) != "preprocess" {
+        return None;
+    }
+    let techniques = match option_value(words.text(2), "--techniques=") {
+        Some(found) => found,
+        None => return None,
+    };
+    let map = match option_value(words.text(3), "--mapfile=") {
+        Some(found) => found,
+        None => return None,
+    };
+    Some((words.text(1), techniques, map))
+}
+
+// What stands behind the front of an option word.
+fn option_value<'a>(word: &'a str, front: &str) -> Option<&'a str>
+    ensures some { IfSome result (λ value. word.now ≡ front.now ++ value.now) }
+    ensures none { IfNone result ((value : List ℕ) → word.now ≡ front.now ++ value → ⊥) }
+{
+    word.strip_prefix(front)
+}
+
+// The form that the fifth word chooses, and `h` where there is none.
+fn form_chosen(words: &Words) -> Option<Form>
+    requires { 4 ≤ length words.now }
+    ensures some { IfSome result (IsFormChosen (drop 4 words.now)) }
+    ensures none { IfNone result ((form : Form) → IsFormChosen (drop 4 words.now) form → ⊥) }
+{
+    match words.len() {
+        4 => Some(Form::H),
+        5 => match form_of(words.text(4)) {
+            Some(form) => Some(form),
+            None => None,
+        },
+        _ => None,
+    }
+}
+
+fn form_of(word: &str) -> Option<Form>
+    ensures some { IfSome result (λ form. word.now ≡ form_word form) }
+    ensures none { IfNone result ((form : Form) → word.now ≡ form_word form → ⊥) }
+{
+    if word == "--form=h" {
+        return Some(Form::H);
+    }
+    if word == "--form=p" {
+        return Some(Form::P);
+    }
+    None
+}
+
+// Whether the word can be an operand.
+fn is_operand(word: &str) -> bool
+    ensures { IsTrue result ↔ IsOperand word.now }
+{
+    match word.as_bytes() {
+        [] => false,
+        [first, ..] => *first != b'-',
+    }
+}
+
+// Whether the value names techniques.
+fn is_techniques(value: &str) -> bool
+    ensures { IsTrue result ↔ IsTechniques value.now }
+{
+    value == "#" || (!value.is_empty() && value.as_bytes().iter().all(|letter| *letter == b'u'))
+}

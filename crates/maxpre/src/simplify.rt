@@ -1,0 +1,111 @@
+//! Running the named techniques on a store.
+ghost use Rattle.std.specs.Prelude.{◌≡◌, ◌≢◌, ◌≤◌, [], All, IfOk, OnOk, codes};
+ghost use Rattle.mp_logic.specs.Keeping.{Keeps};
+ghost use Rattle.mp_logic.specs.Labelled.{IsProper};
+ghost use Rattle.mp_store.specs.Held.{labelled_of};
+ghost use Rattle.maxpre.specs.Presenting.{IsPropagated};
+ghost use Rattle.maxpre.specs.Simplifying.{HasNoUnits, KeptSince};
+ghost use Rattle.maxpre.specs.Words.{IsTechniques};
+
+use crate::limits::limits;
+use mp_labels::Labelled;
+use mp_logic::{Copied, NoMemory, Repair, Repairs};
+use mp_store::Store;
+use std::alloc::Global;
+use t_units::units;
+
+/// What a run of techniques leaves: a labelled state, and the repairs that bring its models back.
+#[derive(Drop)]
+pub struct Simplified {
+    pub labelled: Labelled,
+    pub repairs: Repairs,
+}
+
+/// Runs the named techniques, one after the other; `#` names none.
+pub fn simplify(
+    alloc: Global,
+    labelled: &Labelled,
+    techniques: &str,
+) -> Result<Simplified, NoMemory>
+    requires vars { labelled.now.vars ≤ 16777215 }
+    requires techniques { IsTechniques techniques.now }
+    ensures keeps { IfOk result (λ s. Keeps labelled.now s.labelled s.repairs) }
+    ensures vars { IfOk result (λ s. s.labelled.vars ≤ 16777215) }
+    ensures proper { IfOk result (λ s. All (IsProper s.labelled.vars) s.repairs) }
+    ensures propagated { IfOk result (λ s. techniques.now ≢ codes "#" → IsPropagated s.labelled) }
+{
+    let mut store = started(alloc, labelled)?;
+    for letter in techniques.as_bytes() {
+        run_letter(alloc, &mut store, *letter)?;
+    }
+    match left_in(alloc, &store) {
+        Ok(left) => Ok(left),
+        Err(refused) => Err(refused),
+    }
+}
+
+// The store of a labelled state.
+fn started(alloc: Global, labelled: &Labelled) -> Result<Store, NoMemory>
+    requires { labelled.now.vars ≤ 16777215 }
+    ensures keeps { IfOk result (λ s. Keeps labelled.now (labelled_of s) s.repairs) }
+    ensures inner { IfOk result (λ s. s.inner ≡ 16777215) }
+{
+    let vars = labelled.vars;
+    prove!(vars <= 16_777_215);
+    match Store::new(alloc, labelled, &limits()) {
+        Ok(store) => Ok(store),
+        Err(refused) => Err(refused),
+    }
+}
+
+// Runs the technique of a letter; `#` is none.
+fn run_letter(alloc: Global, store: &mut Store, letter: u8) -> Result<(), NoMemory>
+    ensures keeps { OnOk result (KeptSince store.old store.new) }
+    ensures inner { OnOk result (store.new.inner ≡ store.old.inner) }
+    ensures units { OnOk result (letter ≡ 117 → HasNoUnits store.new) }
+    ensures same { OnOk result (letter ≢ 117 → store.new ≡ store.old) }
+{
+    if letter == b'u' {
+        return propagate(alloc, store);
+    }
+    Ok(())
+}
+
+// Propagates units, where the store isn't refuted.
+fn propagate(alloc: Global, store: &mut Store) -> Result<(), NoMemory>
+    ensures keeps { OnOk result (KeptSince store.old store.new) }
+    ensures inner { OnOk result (store.new.inner ≡ store.old.inner) }
+    ensures units { OnOk result (HasNoUnits store.new) }
+{
+    if store.refuted() {
+        return Ok(());
+    }
+    units(alloc, store, None)?;
+    Ok(())
+}
+
+// The labelled state and the repairs of a store.
+fn left_in(alloc: Global, store: &Store) -> Result<Simplified, NoMemory>
+    ensures labelled { IfOk result (λ s. s.labelled ≡ labelled_of store.now) }
+    ensures repairs { IfOk result (λ s. s.repairs ≡ store.now.repairs) }
+    ensures proper { IfOk result (λ s. All (IsProper store.now.vars) s.repairs) }
+    ensures vars { store.now.vars ≤ store.now.inner }
+    ensures units { HasNoUnits store.now → IsPropagated (labelled_of store.now) }
+{
+    // what holds of each store: its repairs are proper, and a refuted store has an empty clause
+    let _ = store.vars();
+    Ok(Simplified {
+        labelled: store.labelled(alloc)?,
+        repairs: copied(alloc, store.repairs())?,
+    })
+}
+
+fn copied(alloc: Global, repairs: &[Repair]) -> Result<Repairs, NoMemory>
+    ensures { IfOk result (λ made. made ≡ repairs.now) }
+{
+    let mut made = Repairs::new(alloc);
+    for repair in repairs {
+        made.push(repair.copy(alloc)?)?;
+    }
+    Ok(made)
+}

@@ -1,0 +1,13 @@
+pub mod Lists
+pub mod Marks
+pub mod Numbers
+pub mod Renaming
+pub mod Presented
+pub mod Tabled
+pub mod NormalForms
+pub mod Charging
+pub mod LabelClauses
+pub mod View
+pub mod Settling
+pub mod ViewConditions
+pub mod Drafting

@@ -1,0 +1,13 @@
+pub mod Carried
+pub mod Fixed
+pub mod General
+pub mod Kept
+pub mod LiteralOrder
+pub mod Literals
+pub mod MadeTrue
+pub mod Members
+pub mod Optima
+pub mod Optimal
+pub mod Rising
+pub mod Shortened
+pub mod Sums

@@ -1,0 +1,15 @@
+pub mod Carrying
+pub mod Fixing
+pub mod EndStates
+pub mod Formula
+pub mod Keeping
+pub mod Labelled
+pub mod Laws
+pub mod Literal
+pub mod Normal
+pub mod Optimum
+pub mod Repairs
+pub mod Rewrites
+pub mod Sets
+pub mod Truth
+pub mod Weights

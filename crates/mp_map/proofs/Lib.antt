@@ -1,0 +1,11 @@
+pub mod Lines
+pub mod Marked
+pub mod Numerals
+pub mod Pieces
+pub mod Rooms
+pub mod Runs
+pub mod Spellings
+pub mod Stages
+pub mod Texts
+pub mod WholeTexts
+pub mod WordsRead

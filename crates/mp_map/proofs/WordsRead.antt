@@ -1,0 +1,244 @@
+-- The words of a line are read as they are written.
+use Rattle.std.proofs.Common.{◌≡◌, ◌≢◌, ◌≤◌, ◌<◌, ◌^◌, ℕ, zero, suc, Bool, true, false, not, cond, ◌&&◌, IsTrue, List, [], ◌∷◌, ◌++◌, length, map, get_or, codes, decimal, Option, Some, None, refl, ap, subst, sym, ◌∙◌, arith}
+use Rattle.std.specs.Prelude.{nat_eq, nat_lt, nat_le}
+use Rattle.std.specs.List.{AllByRecursion}
+use Rattle.std.specs.Str.{bytes_eq}
+use Rattle.std.proofs.lemmas.Bool.{and_parts, and_from, false≢true, leb-true, eqb-true, eq-eqb, ne_eqb}
+use Rattle.std.proofs.Math.Dec.{eqb-suc-zero}
+use Rattle.std.proofs.lemmas.Fmt.{first_decimal}
+use Rattle.std.proofs.lemmas.List.Elements.{recursion_from_All, All-from_recursion}
+use Rattle.std.proofs.lemmas.List.{append-nil}
+use Rattle.std.proofs.lemmas.Option.{none-some}
+use Rattle.std.proofs.lemmas.Slice.Eq.{bytes_eq-Decides}
+use Rattle.mp_logic.specs.Labelled.{IsProper, names_rise}
+use Rattle.mp_logic.specs.Literal.{Literal, IsUpTo}
+use Rattle.mp_logic.specs.Normal.{rises}
+use Rattle.mp_logic.specs.declared.instances.Repair.{Repair}
+use Rattle.mp_map.specs.Maps.{literal_word, clause_words, repair_words}
+use Rattle.mp_map.specs.Pieces.{is_empty}
+use Rattle.mp_map.specs.Reading.{exact_of, number_in, put_first, numbers_in, checked_names, names_in, signed, literal_in, put_literal, clause_in, checked_repair, repair_behind, repair_in}
+use Rattle.mp_map.proofs.Numerals.{found, exact_complete}
+
+pub if_some : {X : Type 0} (b : Bool) (o : Option X) (x : X) → cond b o None ≡ Some x → (b ≡ true) × (o ≡ Some x)
+if_some true o x h = (refl, h)
+if_some false o x h = absurd (none-some x h)
+
+pub same_bytes : (xs : List ℕ) → bytes_eq xs xs ≡ true
+same_bytes xs = (bytes_eq-Decides xs xs).1 refl
+
+pub other_bytes : (xs ys : List ℕ) → (xs ≡ ys → ⊥) → bytes_eq xs ys ≡ false
+other_bytes xs ys ne =
+    let go : (b : Bool) → bytes_eq xs ys ≡ b → bytes_eq xs ys ≡ false = λ (b : Bool). elim b as (λ b. bytes_eq xs ys ≡ b → bytes_eq xs ys ≡ false) [ true ↦ λ e. absurd (ne ((bytes_eq-Decides xs ys).0 e)) | false ↦ λ e. e ] in
+    go (bytes_eq xs ys) refl
+
+-- a word and a number
+
+pub number_sound : (word : List ℕ) (most : ℕ) (ws : List (List ℕ)) (n : ℕ) → most < 2 ^ 64 → number_in word most ws ≡ Some n → (ws ≡ word ∷ (decimal n ∷ [])) × (n ≤ most)
+number_sound word most [] n small h = absurd (none-some n h)
+number_sound word most (w ∷ []) n small h = absurd (none-some n h)
+number_sound word most (w ∷ (d ∷ [])) n small h =
+    let p = if_some (bytes_eq w word) (exact_of most d) n h in
+    let f = found most d n small p.1 in
+    (ap (λ (v : List ℕ). v ∷ (d ∷ [])) ((bytes_eq-Decides w word).0 p.0) ∙ ap (λ (v : List ℕ). word ∷ (v ∷ [])) f.0, f.1)
+number_sound word most (w ∷ (d ∷ (e ∷ es))) n small h = absurd (none-some n h)
+
+pub number_complete : (word : List ℕ) (most n : ℕ) → most < 2 ^ 64 → n ≤ most → number_in word most (word ∷ (decimal n ∷ [])) ≡ Some n
+number_complete word most n small h = ap (λ (t : Bool). cond t (exact_of most (decimal n)) None) (same_bytes word) ∙ exact_complete most n small h
+
+-- names
+
+put_first_some : {X : Type 0} (o : Option X) (rest : Option (List X)) (xs : List X) → put_first o rest ≡ Some xs → (x : X) × (ys : List X) × (o ≡ Some x) × (rest ≡ Some ys) × (x ∷ ys ≡ xs)
+put_first_some None rest xs h = absurd (none-some xs h)
+put_first_some (Some x) None xs h = absurd (none-some xs h)
+put_first_some (Some x) (Some ys) xs h = (x, ys, refl, refl, cc)
+
+numbers_sound : (most : ℕ) (ws : List (List ℕ)) (ns : List ℕ) → most < 2 ^ 64 → numbers_in most ws ≡ Some ns → ws ≡ map decimal ns
+numbers_sound most [] ns small h = ap (map decimal) (let e : [] ≡ ns = cc in e)
+numbers_sound most (w ∷ ws) ns small h =
+    let p = put_first_some (exact_of most w) (numbers_in most ws) ns h in
+    ap (λ (v : List ℕ). v ∷ ws) (found most w p.0 small p.2).0 ∙ ap (λ (vs : List (List ℕ)). decimal p.0 ∷ vs) (numbers_sound most ws p.1 small p.3) ∙ ap (map decimal) p.4
+
+numbers_complete : (least most : ℕ) (ns : List ℕ) → most < 2 ^ 64 → IsTrue (names_rise least most ns) → numbers_in most (map decimal ns) ≡ Some ns
+numbers_complete least most [] small h = refl
+numbers_complete least most (n ∷ ns) small h =
+    let p = and_parts (nat_lt least n && nat_le n most) (names_rise n most ns) h in
+    let q = and_parts (nat_lt least n) (nat_le n most) p.0 in
+    ap (λ (o : Option ℕ). put_first o (numbers_in most (map decimal ns))) (exact_complete most n small (leb-true _ _ q.1)) ∙ ap (put_first (Some n)) (numbers_complete n most ns small p.1)
+
+checked_some : (inner written : ℕ) (o : Option (List ℕ)) (ns : List ℕ) → checked_names inner written o ≡ Some ns → (o ≡ Some ns) × (length ns ≡ written) × IsTrue (names_rise 0 inner ns)
+checked_some inner written None ns h = absurd (none-some ns h)
+checked_some inner written (Some names) ns h =
+    let p = if_some (nat_eq (length names) written && names_rise 0 inner names) (Some names) ns h in
+    let q = and_parts (nat_eq (length names) written) (names_rise 0 inner names) p.0 in
+    let same : names ≡ ns = (let e : Some names ≡ Some ns = p.1 in cc) in
+    (p.1, subst (λ (l : List ℕ). length l ≡ written) same (eqb-true _ _ q.0), subst (λ (l : List ℕ). IsTrue (names_rise 0 inner l)) same q.1)
+
+pub names_sound : (inner written : ℕ) (ws : List (List ℕ)) (ns : List ℕ) → inner < 2 ^ 64 → names_in inner written ws ≡ Some ns
+    → (ws ≡ codes "names" ∷ map decimal ns) × (length ns ≡ written) × IsTrue (names_rise 0 inner ns)
+names_sound inner written [] ns small h = absurd (none-some ns h)
+names_sound inner written (w ∷ ws) ns small h =
+    let p = if_some (bytes_eq w (codes "names")) (checked_names inner written (numbers_in inner ws)) ns h in
+    let q = checked_some inner written (numbers_in inner ws) ns p.1 in
+    (ap (λ (v : List ℕ). v ∷ ws) ((bytes_eq-Decides w (codes "names")).0 p.0) ∙ ap (λ (vs : List (List ℕ)). codes "names" ∷ vs) (numbers_sound inner ws ns small q.0), q.1, q.2)
+
+pub names_complete : (inner written : ℕ) (ns : List ℕ) → inner < 2 ^ 64 → length ns ≡ written → IsTrue (names_rise 0 inner ns) → names_in inner written (codes "names" ∷ map decimal ns) ≡ Some ns
+names_complete inner written ns small len rising =
+    ap (λ (t : Bool). cond t (checked_names inner written (numbers_in inner (map decimal ns))) None) (same_bytes (codes "names"))
+    ∙ ap (checked_names inner written) (numbers_complete 0 inner ns small rising)
+    ∙ ap (λ (t : Bool). cond t (Some ns) None) (and_from (nat_eq (length ns) written) (names_rise 0 inner ns) (eq-eqb _ _ len) rising)
+
+-- literals
+
+signed_some : (negative : Bool) (o : Option ℕ) (l : Literal) → signed negative o ≡ Some l → (o ≡ Some l.variable) × (l.negative ≡ negative) × (1 ≤ l.variable)
+signed_some negative None l h = absurd (none-some l h)
+signed_some negative (Some zero) l h = absurd (none-some l h)
+signed_some negative (Some (suc n)) l h =
+    let made : Literal = record { variable = suc n; negative = negative } in
+    let same : made ≡ l = (let e : Some made ≡ Some l = ap (λ (t : Bool). cond t None (Some made)) (sym (eqb-suc-zero n)) ∙ h in cc) in
+    (ap (λ (k : Literal). Some k.variable) same, ap (λ (k : Literal). k.negative) (sym same), subst (λ (k : Literal). 1 ≤ k.variable) same (omega arith))
+
+literal_parts : (most : ℕ) (w : List ℕ) (l : Literal) (negative : Bool) → most < 2 ^ 64 → signed negative (exact_of most w) ≡ Some l → (w ≡ decimal l.variable) × (l.negative ≡ negative) × IsUpTo most l
+literal_parts most w l negative small h =
+    let p = signed_some negative (exact_of most w) l h in
+    let f = found most w l.variable small p.0 in
+    (f.0, p.1, (p.2, f.1))
+
+pub literal_sound : (most : ℕ) (w : List ℕ) (l : Literal) → most < 2 ^ 64 → literal_in most w ≡ Some l → (w ≡ literal_word l) × IsUpTo most l
+literal_sound most [] l small h = absurd (none-some l h)
+literal_sound most (b ∷ bs) l small h =
+    let step : (t : Bool) → nat_eq b 45 ≡ t → (b ∷ bs ≡ literal_word l) × IsUpTo most l =
+    λ (t : Bool). elim t as (λ t. nat_eq b 45 ≡ t → (b ∷ bs ≡ literal_word l) × IsUpTo most l) [
+      | true ↦ λ e.
+          let p = literal_parts most bs l true small (ap (λ (t : Bool). cond t (signed true (exact_of most bs)) (signed false (exact_of most (b ∷ bs)))) (sym e) ∙ h) in
+          (ap (λ (v : ℕ). v ∷ bs) (eqb-true b 45 e) ∙ ap (λ (v : List ℕ). 45 ∷ v) p.0 ∙ ap (λ (t : Bool). cond t (45 ∷ decimal l.variable) (decimal l.variable)) (sym p.1), p.2)
+      | false ↦ λ e.
+          let p = literal_parts most (b ∷ bs) l false small (ap (λ (t : Bool). cond t (signed true (exact_of most bs)) (signed false (exact_of most (b ∷ bs)))) (sym e) ∙ h) in
+          (p.0 ∙ ap (λ (t : Bool). cond t (45 ∷ decimal l.variable) (decimal l.variable)) (sym p.1), p.2)
+    ] in
+    step (nat_eq b 45) refl
+
+signed_made : (negative : Bool) (n : ℕ) → 1 ≤ n → signed negative (Some n) ≡ Some (record { variable = n; negative = negative })
+signed_made negative zero h = absurd (omega (arith, h))
+signed_made negative (suc n) h = ap (λ (t : Bool). cond t None (Some (record { variable = suc n; negative = negative }))) (eqb-suc-zero n)
+
+-- a number from 1 begins with a digit from 1
+positive_word : (most n : ℕ) (ds : List ℕ) → most < 2 ^ 64 → 1 ≤ n → n ≤ most → ds ≡ decimal n → literal_in most ds ≡ Some (record { variable = n; negative = false })
+positive_word most n [] small one h e = absurd (let f : 48 < get_or (decimal n) 0 0 = first_decimal n one (omega (arith, small, h)) in let z : 48 < 0 = subst (λ (v : List ℕ). 48 < get_or v 0 0) (sym e) f in omega (arith, z))
+positive_word most n (d ∷ ds) small one h e =
+    let f : 48 < get_or (decimal n) 0 0 = first_decimal n one (omega (arith, small, h)) in
+    let z : 48 < d = subst (λ (v : List ℕ). 48 < get_or v 0 0) (sym e) f in
+    let no : nat_eq d 45 ≡ false = ne_eqb d 45 (λ s. omega (arith, s, z)) in
+    ap (λ (t : Bool). cond t (signed true (exact_of most ds)) (signed false (exact_of most (d ∷ ds)))) no
+    ∙ ap (λ (v : List ℕ). signed false (exact_of most v)) e ∙ ap (signed false) (exact_complete most n small h) ∙ signed_made false n one
+
+pub literal_complete : (most : ℕ) (l : Literal) → most < 2 ^ 64 → IsUpTo most l → literal_in most (literal_word l) ≡ Some l
+literal_complete most l small h =
+    let step : (t : Bool) → l.negative ≡ t → literal_in most (cond t (45 ∷ decimal l.variable) (decimal l.variable)) ≡ Some (record { variable = l.variable; negative = t }) =
+    λ (t : Bool). elim t as (λ t. l.negative ≡ t → literal_in most (cond t (45 ∷ decimal l.variable) (decimal l.variable)) ≡ Some (record { variable = l.variable; negative = t })) [
+      | true ↦ λ e. ap (signed true) (exact_complete most l.variable small h.1) ∙ signed_made true l.variable h.0
+      | false ↦ λ e. positive_word most l.variable (decimal l.variable) small h.0 h.1 refl
+    ] in
+    step l.negative refl
+
+-- a literal's word isn't 0
+literal_apart : (most : ℕ) (l : Literal) → most < 2 ^ 64 → IsUpTo most l → bytes_eq (literal_word l) (codes "0") ≡ false
+literal_apart most l small h =
+    other_bytes (literal_word l) (codes "0") (λ e.
+    let step : (t : Bool) → cond t (45 ∷ decimal l.variable) (decimal l.variable) ≡ codes "0" → ⊥ =
+    λ (t : Bool). elim t as (λ t. cond t (45 ∷ decimal l.variable) (decimal l.variable) ≡ codes "0" → ⊥) [
+      | true ↦ λ s. let n : 45 ≡ 48 = (ap (λ (v : List ℕ). get_or v 0 0) s) in omega (arith, n)
+      | false ↦ λ s. let z : 48 < 48 = subst (λ (v : List ℕ). 48 < get_or v 0 0) s (first_decimal l.variable h.0 (omega (arith, small, h.1))) in omega (arith, z)
+    ] in
+    step l.negative e)
+
+-- clauses
+
+some_pair : (p q : List Literal × List (List ℕ)) → Some p ≡ Some q → p ≡ q
+some_pair p q h = cc
+
+put_literal_some : (o : Option Literal) (rest : Option (List Literal × List (List ℕ))) (c : List Literal) (ws : List (List ℕ)) → put_literal o rest ≡ Some (c, ws)
+    → (l : Literal) × (d : List Literal) × (o ≡ Some l) × (rest ≡ Some (d, ws)) × (l ∷ d ≡ c)
+put_literal_some None rest c ws h = absurd (none-some (c, ws) h)
+put_literal_some (Some l) None c ws h = absurd (none-some (c, ws) h)
+put_literal_some (Some l) (Some (d, vs)) c ws h =
+    let e : (l ∷ d, vs) ≡ (c, ws) = some_pair (l ∷ d, vs) (c, ws) h in
+    (l, d, refl, ap (λ (v : List (List ℕ)). Some (d, v)) (ap (λ (p : List Literal × List (List ℕ)). p.1) e), ap (λ (p : List Literal × List (List ℕ)). p.0) e)
+
+pub clause_sound : (most : ℕ) (ws : List (List ℕ)) (c : List Literal) (rest : List (List ℕ)) → most < 2 ^ 64 → clause_in most ws ≡ Some (c, rest) → (ws ≡ clause_words c ++ rest) × AllByRecursion (IsUpTo most) c
+clause_sound most [] c rest small h = absurd (none-some (c, rest) h)
+clause_sound most (w ∷ ws) c rest small h =
+    let step : (t : Bool) → bytes_eq w (codes "0") ≡ t → (w ∷ ws ≡ clause_words c ++ rest) × AllByRecursion (IsUpTo most) c =
+    λ (t : Bool). elim t as (λ t. bytes_eq w (codes "0") ≡ t → (w ∷ ws ≡ clause_words c ++ rest) × AllByRecursion (IsUpTo most) c) [
+      | true ↦ λ e.
+          let k : Some ([], ws) ≡ Some (c, rest) = ap (λ (t : Bool). cond t (Some ([], ws)) (put_literal (literal_in most w) (clause_in most ws))) (sym e) ∙ h in
+          let pair : ([], ws) ≡ (c, rest) = some_pair ([], ws) (c, rest) k in
+          let none : [] ≡ c = ap (λ (p : List Literal × List (List ℕ)). p.0) pair in
+          let same : ws ≡ rest = ap (λ (p : List Literal × List (List ℕ)). p.1) pair in
+          (ap (λ (v : List ℕ). v ∷ ws) ((bytes_eq-Decides w (codes "0")).0 e) ∙ ap (λ (vs : List (List ℕ)). codes "0" ∷ vs) same ∙ ap (λ (d : List Literal). clause_words d ++ rest) none, subst (AllByRecursion (IsUpTo most)) none tt)
+      | false ↦ λ e.
+          let k : put_literal (literal_in most w) (clause_in most ws) ≡ Some (c, rest) = ap (λ (t : Bool). cond t (Some ([], ws)) (put_literal (literal_in most w) (clause_in most ws))) (sym e) ∙ h in
+          let p = put_literal_some (literal_in most w) (clause_in most ws) c rest k in
+          let first = literal_sound most w p.0 small p.2 in
+          let others = clause_sound most ws p.1 rest small p.3 in
+          (ap (λ (v : List ℕ). v ∷ ws) first.0 ∙ ap (λ (vs : List (List ℕ)). literal_word p.0 ∷ vs) others.0 ∙ ap (λ (d : List Literal). clause_words d ++ rest) p.4, subst (AllByRecursion (IsUpTo most)) p.4 (first.1, others.1))
+    ] in
+    step (bytes_eq w (codes "0")) refl
+
+pub clause_complete : (most : ℕ) (c : List Literal) (rest : List (List ℕ)) → most < 2 ^ 64 → AllByRecursion (IsUpTo most) c → clause_in most (clause_words c ++ rest) ≡ Some (c, rest)
+clause_complete most [] rest small h = refl
+clause_complete most (l ∷ c) rest small h =
+    ap (λ (t : Bool). cond t (Some ([], clause_words c ++ rest)) (put_literal (literal_in most (literal_word l)) (clause_in most (clause_words c ++ rest)))) (literal_apart most l small h.0)
+    ∙ ap (λ (o : Option Literal). put_literal o (clause_in most (clause_words c ++ rest))) (literal_complete most l small h.0)
+    ∙ ap (put_literal (Some l)) (clause_complete most c rest small h.1)
+
+-- repairs
+
+nonempty_from : {X : Type 0} (xs : List X) → not (is_empty xs) ≡ true → xs ≢ []
+nonempty_from [] h e = false≢true h
+nonempty_from (x ∷ xs) h e = cc
+
+empty_from : {X : Type 0} (xs : List X) → is_empty xs ≡ true → xs ≡ []
+empty_from [] h = refl
+empty_from (x ∷ xs) h = absurd (false≢true h)
+
+nonempty_to : {X : Type 0} (xs : List X) → xs ≢ [] → not (is_empty xs) ≡ true
+nonempty_to [] h = absurd (h refl)
+nonempty_to (x ∷ xs) h = refl
+
+checked_repair_some : (sets : List Literal) (o : Option (List Literal × List (List ℕ))) (r : Repair) → checked_repair sets o ≡ Some r
+    → (o ≡ Some (r.clause, [])) × (r.sets ≡ sets) × (sets ≢ []) × IsTrue (rises 0 sets) × IsTrue (rises 0 r.clause)
+checked_repair_some sets None r h = absurd (none-some r h)
+checked_repair_some sets (Some (clause, ws)) r h =
+    let made : Repair = record { sets = sets; clause = clause } in
+    let p = if_some (((is_empty ws && not (is_empty sets)) && rises 0 sets) && rises 0 clause) (Some made) r h in
+    let q = and_parts ((is_empty ws && not (is_empty sets)) && rises 0 sets) (rises 0 clause) p.0 in
+    let s = and_parts (is_empty ws && not (is_empty sets)) (rises 0 sets) q.0 in
+    let t = and_parts (is_empty ws) (not (is_empty sets)) s.0 in
+    let same : made ≡ r = (let e : Some made ≡ Some r = p.1 in cc) in
+    (ap (λ (vs : List (List ℕ)). Some (clause, vs)) (empty_from ws t.0) ∙ ap (λ (k : Repair). Some (k.clause, [])) same, ap (λ (k : Repair). k.sets) (sym same), nonempty_from sets t.1, s.1, subst (λ (k : Repair). IsTrue (rises 0 k.clause)) same q.1)
+
+repair_parts : (most : ℕ) (o : Option (List Literal × List (List ℕ))) (r : Repair) → repair_behind most o ≡ Some r → (ws : List (List ℕ)) × (o ≡ Some (r.sets, ws)) × (checked_repair r.sets (clause_in most ws) ≡ Some r)
+repair_parts most None r h = absurd (none-some r h)
+repair_parts most (Some (sets, ws)) r h =
+    let same : r.sets ≡ sets = (checked_repair_some sets (clause_in most ws) r h).1 in
+    (ws, ap (λ (s : List Literal). Some (s, ws)) (sym same), subst (λ (s : List Literal). checked_repair s (clause_in most ws) ≡ Some r) (sym same) h)
+
+pub repair_sound : (most : ℕ) (ws : List (List ℕ)) (r : Repair) → most < 2 ^ 64 → repair_in most ws ≡ Some r → (ws ≡ repair_words r) × IsProper most r
+repair_sound most ws r small h =
+    let p = repair_parts most (clause_in most ws) r h in
+    let q = checked_repair_some r.sets (clause_in most p.0) r p.2 in
+    let first = clause_sound most ws r.sets p.0 small p.1 in
+    let second = clause_sound most p.0 r.clause [] small q.0 in
+    let tail : p.0 ≡ clause_words r.clause = second.0 ∙ append-nil (clause_words r.clause) in (
+      first.0 ∙ ap (λ (vs : List (List ℕ)). clause_words r.sets ++ vs) tail,
+      record { sets_normal = q.3; clause_normal = q.4; sets_some = q.2; sets_within = All-from_recursion (IsUpTo most) r.sets first.1; clause_within = All-from_recursion (IsUpTo most) r.clause second.1 },
+    )
+
+pub repair_complete : (most : ℕ) (r : Repair) → most < 2 ^ 64 → IsProper most r → repair_in most (repair_words r) ≡ Some r
+repair_complete most r small h =
+    let first = clause_complete most r.sets (clause_words r.clause) small (recursion_from_All (IsUpTo most) r.sets h.sets_within) in
+    let second : clause_in most (clause_words r.clause) ≡ Some (r.clause, []) = ap (clause_in most) (sym (append-nil (clause_words r.clause))) ∙ clause_complete most r.clause [] small (recursion_from_All (IsUpTo most) r.clause h.clause_within) in
+    ap (repair_behind most) first ∙ ap (checked_repair r.sets) second
+    ∙ ap (λ (t : Bool). cond t (Some r) None)
+    (and_from ((true && not (is_empty r.sets)) && rises 0 r.sets) (rises 0 r.clause)
+    (and_from (true && not (is_empty r.sets)) (rises 0 r.sets) (nonempty_to r.sets h.sets_some) h.sets_normal) h.clause_normal)

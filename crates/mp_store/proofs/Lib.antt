@@ -1,0 +1,9 @@
+pub mod Steps
+pub mod Pricing
+pub mod Queued
+pub mod Sound
+pub mod Found
+pub mod Fixes
+pub mod KeptFixing
+pub mod Runs
+pub mod Started

@@ -1,0 +1,397 @@
+-- Steps on the rows and the lists of ids.
+use Rattle.std.proofs.Common.{◌≡◌, ◌⊎◌, ℕ, ◌+◌, ◌<◌, ◌≤◌, Bool, true, false, not, cond, List, [], ◌∷◌, ◌++◌, length, get_or, set, take, drop, add-one, drop-cons, zero, suc, refl, sym, subst, ◌∙◌, ap, arith, replicate, inl, inr}
+use Rattle.std.specs.Prelude.{Option, Some, None, All, ◌==◌, ◌||◌, ◌&&◌, map}
+use Rattle.std.specs.List.{filter}
+use Rattle.std.proofs.lemmas.Grind.{common_steps}
+use Rattle.std.proofs.Math.ListN.{length-set}
+use Rattle.std.proofs.lemmas.List.{length-map, length-append}
+use Rattle.std.proofs.lemmas.List.Folds.{list_any_more}
+use Rattle.std.proofs.lemmas.List.Sums.{sum_by-cons, sum_by-append}
+use Rattle.mp_logic.specs.Literal.{Literal}
+use Rattle.mp_store.specs.declared.rows.Row.{Row}
+use Rattle.mp_store.specs.declared.rows.Size.{Size}
+use Rattle.mp_store.specs.Places.{place_of, has}
+use Rattle.mp_store.specs.Held.{live_clauses}
+use Rattle.mp_store.specs.Occurrences.{ids_where, slot_has}
+use Rattle.mp_store.specs.Rewriting.{cleared}
+use Rattle.mp_store.specs.Tables.{Room, apart, ids_from, at, spare_at, room_at, row_at, clause_at, live_in, killed, dead, touched, alive, slot_of, slots_of, blank, marked, AreWithin, AreMatched, IsClauseTable, IsSize, literals_of, spares_of}
+
+pub get_or-any : {A : Type 0} (xs : List A) (k : ℕ) (d e : A) → k < length xs → get_or xs k d ≡ get_or xs k e
+get_or-any [] k d e h = absurd (omega arith)
+get_or-any (x ∷ xs) zero d e h = refl
+get_or-any (x ∷ xs) (suc k) d e h = get_or-any xs k d e (omega arith)
+
+-- what is said of the clauses of all ids, at a clause that was read
+pub clause_within : (rows : List Row) (n k : ℕ) (r : Row) (c : List Literal) → ((k : ℕ) → All (λ l. place_of l < n) (clause_at rows k)) → k < length rows → c ≡ (get_or rows k r).clause → All (λ l. place_of l < n) c
+clause_within rows n k r c w h f =
+    let there : clause_at rows k ≡ c = ap (λ v. v.clause) (get_or-any rows k blank r h) ∙ sym f in
+    rw (← there) (w k)
+
+pub has_not_at : (p : ℕ) (c : List Literal) (k : ℕ) (d : Literal) → has p c ≡ false → k < length c → (place_of (get_or c k d) == p) ≡ false
+has_not_at p [] k d h l = absurd (omega arith)
+has_not_at p (x ∷ xs) zero d h l = grind (arith, common_steps)
+has_not_at p (x ∷ xs) (suc k) d h l = let rest : has p xs ≡ false = grind (arith, common_steps) in has_not_at p xs k d rest (omega arith)
+
+pub apart-fresh : (c : List Literal) (k : ℕ) (d : Literal) → apart c ≡ true → k < length c → has (place_of (get_or c k d)) (take k c) ≡ false
+apart-fresh [] k d a h = absurd (omega arith)
+apart-fresh (x ∷ xs) zero d a h = refl
+apart-fresh (x ∷ xs) (suc k) d a h = let parts : (has (place_of x) xs ≡ false) × (apart xs ≡ true) = grind (arith, common_steps) in let fresh : has (place_of (get_or xs k d)) (take k xs) ≡ false = apart-fresh xs k d parts.1 (omega arith) in let other : (place_of (get_or xs k d) == place_of x) ≡ false = has_not_at (place_of x) xs k d parts.0 (omega arith) in grind (arith, common_steps)
+
+pub has_at : (c : List Literal) (k : ℕ) (d : Literal) → k < length c → has (place_of (get_or c k d)) c ≡ true
+has_at [] k d h = absurd (omega arith)
+has_at (x ∷ xs) zero d h = grind (arith, common_steps)
+has_at (x ∷ xs) (suc k) d h = let rest : has (place_of (get_or xs k d)) xs ≡ true = has_at xs k d (omega arith) in grind (arith, common_steps)
+
+abbrev pub LinkedSoFar : List Literal → ℕ → List Room → List Room → Type 0
+LinkedSoFar c id old new = (p : ℕ) → (at new p ≡ at old p ++ cond (has p c) (id ∷ []) []) × (spare_at new p + cond (has p c) 1 0 ≡ spare_at old p)
+
+pub link-room : (c : List Literal) (k : ℕ) (d : Literal) (id : ℕ) (old new : List Room) (q : ℕ) (a : Room) → k < length c → apart c ≡ true → q < length new → q ≡ place_of (get_or c k d) → a ≡ get_or new q a → ((p : ℕ) → has p c ≡ true → 0 < spare_at old p) → LinkedSoFar (take k c) id old new → 0 < a.spare
+link-room c k d id old new q a h z w e r g u =
+    let fresh : has (place_of (get_or c k d)) (take k c) ≡ false = apart-fresh c k d z h in
+    let free : 0 < spare_at old (place_of (get_or c k d)) = g (place_of (get_or c k d)) (has_at c k d h) in
+    let now = (u (place_of (get_or c k d))).1 in
+    let left : 0 < spare_at new (place_of (get_or c k d)) = grind (arith, common_steps, now) in
+    let same : a ≡ room_at new q = r ∙ get_or-any new q a (record { items = []; spare = 0 }) w in
+    rw same (rw e left)
+
+pub link-more : (c : List Literal) (k : ℕ) (d : Literal) (id : ℕ) (old new : List Room) (q : ℕ) (a b : Room) → k < length c → apart c ≡ true → q < length new → q ≡ place_of (get_or c k d) → a ≡ get_or new q a → b.items ≡ a.items ++ id ∷ [] → b.spare + 1 ≡ a.spare → LinkedSoFar (take k c) id old new → LinkedSoFar (take (k + 1) c) id old (set new q b)
+link-more c k d id old new q a b h z w e r g s u p =
+    let m : has p (take (k + 1) c) ≡ (has p (take k c) || (place_of (get_or c k d) == p)) = list_any_more (λ l. place_of l == p) c k d h in
+    let f : has (place_of (get_or c k d)) (take k c) ≡ false = apart-fresh c k d z h in
+    grind (arith, common_steps, u p)
+
+pub ids_from-append : (p i : ℕ) (xs ys : List Row) → ids_from p i (xs ++ ys) ≡ ids_from p i xs ++ ids_from p (i + length xs) ys
+ids_from-append p i [] ys = grind arith
+ids_from-append p i (x ∷ xs) ys = let rest : ids_from p (i + 1) (xs ++ ys) ≡ ids_from p (i + 1) xs ++ ids_from p (i + 1 + length xs) ys = ids_from-append p (i + 1) xs ys in grind arith
+
+-- clauses that are the same, and live only where they were
+pub record Thinned (old new : List Row) : Type 0 where
+  pub len : length new ≡ length old
+  pub same : (k : ℕ) → clause_at new k ≡ clause_at old k
+  pub less : (k : ℕ) → live_in new k ≡ true → live_in old k ≡ true
+
+thinned-rest : (x y : Row) (xs ys : List Row) → Thinned (x ∷ xs) (y ∷ ys) → Thinned xs ys
+thinned-rest x y xs ys t = record { len = let e = t.len in omega arith; same = λ k. t.same (suc k); less = λ k. t.less (suc k) }
+
+-- what is left of a list is what is live in it
+pub ids_from-thinned : (p i : ℕ) (old new : List Row) (q : ℕ → Bool) → Thinned old new → ((k : ℕ) → k < length new → q (i + k) ≡ live_in new k) → ids_from p i new ≡ filter q (ids_from p i old)
+ids_from-thinned p i [] [] q t h = refl
+ids_from-thinned p i [] (y ∷ ys) q t h = let e = t.len in absurd (omega arith)
+ids_from-thinned p i (x ∷ xs) [] q t h = let e = t.len in absurd (omega arith)
+ids_from-thinned p i (x ∷ xs) (y ∷ ys) q t h =
+    let rest : ids_from p (i + 1) ys ≡ filter q (ids_from p (i + 1) xs) = ids_from-thinned p (i + 1) xs ys q (thinned-rest x y xs ys t) (λ k l. let n : i + suc k ≡ i + 1 + k = omega arith in rw (← n) (h (suc k) (omega arith))) in
+    let same : y.clause ≡ x.clause = t.same 0 in
+    let less : y.live ≡ true → x.live ≡ true = t.less 0 in
+    let here : q (i + 0) ≡ y.live = h 0 (omega arith) in
+    let now : q i ≡ y.live = let z : i + 0 ≡ i = omega arith in rw z at here in
+    grind (arith, common_steps)
+
+kill-same : (rows : List Row) (k j : ℕ) → clause_at (set rows k (dead (row_at rows k))) j ≡ clause_at rows j
+kill-same [] k j = refl
+kill-same (x ∷ xs) zero zero = refl
+kill-same (x ∷ xs) zero (suc j) = refl
+kill-same (x ∷ xs) (suc k) zero = refl
+kill-same (x ∷ xs) (suc k) (suc j) = kill-same xs k j
+
+kill-less : (rows : List Row) (k j : ℕ) → live_in (set rows k (dead (row_at rows k))) j ≡ true → live_in rows j ≡ true
+kill-less [] k j h = h
+kill-less (x ∷ xs) zero zero h = absurd (cc)
+kill-less (x ∷ xs) zero (suc j) h = h
+kill-less (x ∷ xs) (suc k) zero h = h
+kill-less (x ∷ xs) (suc k) (suc j) h = kill-less xs k j h
+
+pub kill-thinned : (rows : List Row) (k : ℕ) → Thinned rows (set rows k (dead (row_at rows k)))
+kill-thinned rows k = record { len = simp length-set; same = kill-same rows k; less = kill-less rows k }
+
+pub thinned-twice : (a b c : List Row) → Thinned a b → Thinned b c → Thinned a c
+thinned-twice a b c s t = record { len = t.len ∙ s.len; same = λ k. t.same k ∙ s.same k; less = λ k e. s.less k (t.less k e) }
+
+pub killed-thinned : (gone : List ℕ) (rows : List Row) → Thinned rows (killed gone rows)
+killed-thinned [] rows = record { len = refl; same = λ k. refl; less = λ k e. e }
+killed-thinned (g ∷ gs) rows = thinned-twice _ _ _ (kill-thinned rows g) (killed-thinned gs (set rows g (dead (row_at rows g))))
+
+-- a list that no killed clause stands in stays
+pub ids_from-kill : (p i k : ℕ) (rows : List Row) → has p (clause_at rows k) ≡ false → ids_from p i (set rows k (dead (row_at rows k))) ≡ ids_from p i rows
+ids_from-kill p i k [] h = refl
+ids_from-kill p i zero (x ∷ xs) h = grind (arith, common_steps)
+ids_from-kill p i (suc k) (x ∷ xs) h = let rest : ids_from p (i + 1) (set xs k (dead (row_at xs k))) ≡ ids_from p (i + 1) xs = ids_from-kill p (i + 1) k xs h in grind arith
+
+pub touched-thinned : (p : ℕ) (gone : List ℕ) (old new : List Row) → Thinned old new → touched p gone new ≡ touched p gone old
+touched-thinned p [] old new t = refl
+touched-thinned p (g ∷ gs) old new t = let rest : touched p gs new ≡ touched p gs old = touched-thinned p gs old new t in let same : clause_at new g ≡ clause_at old g = t.same g in grind (arith, common_steps)
+
+pub ids_from-untouched : (p : ℕ) (gone : List ℕ) (rows : List Row) → touched p gone rows ≡ false → ids_from p 0 (killed gone rows) ≡ ids_from p 0 rows
+ids_from-untouched p [] rows h = refl
+ids_from-untouched p (g ∷ gs) rows h =
+    let first : has p (clause_at rows g) ≡ false = grind (arith, common_steps) in
+    let others : touched p gs rows ≡ false = grind (arith, common_steps) in
+    let still : touched p gs (set rows g (dead (row_at rows g))) ≡ touched p gs rows = touched-thinned p gs rows _ (kill-thinned rows g) in
+    ids_from-untouched p gs (set rows g (dead (row_at rows g))) (still ∙ others) ∙ ids_from-kill p 0 g rows first
+
+-- the slots of what was killed and put in
+pub slots-kill : (rows : List Row) (k : ℕ) → map slot_of (set rows k (dead (row_at rows k))) ≡ set (map slot_of rows) k None
+slots-kill [] k = refl
+slots-kill (x ∷ xs) zero = refl
+slots-kill (x ∷ xs) (suc k) = ap (λ s. slot_of x ∷ s) (slots-kill xs k)
+
+pub slots-killed : (gone : List ℕ) (rows : List Row) → map slot_of (killed gone rows) ≡ cleared gone (map slot_of rows)
+slots-killed [] rows = refl
+slots-killed (g ∷ gs) rows = slots-killed gs (set rows g (dead (row_at rows g))) ∙ ap (cleared gs) (slots-kill rows g)
+
+pub slots-alive : (cs : List (List Literal)) → map slot_of (map alive cs) ≡ map Some cs
+slots-alive [] = refl
+slots-alive (c ∷ cs) = ap (λ s. Some c ∷ s) (slots-alive cs)
+
+pub slots-append : (xs ys : List Row) → map slot_of (xs ++ ys) ≡ map slot_of xs ++ map slot_of ys
+slots-append [] ys = refl
+slots-append (x ∷ xs) ys = ap (λ s. slot_of x ∷ s) (slots-append xs ys)
+
+pub slots-after : (gone : List ℕ) (cs : List (List Literal)) (rows : List Row) → map slot_of (killed gone rows ++ map alive cs) ≡ cleared gone (map slot_of rows) ++ map Some cs
+slots-after gone cs rows = slots-append (killed gone rows) (map alive cs) ∙ (ap (λ s. s ++ map slot_of (map alive cs)) (slots-killed gone rows) ∙ ap (λ s. cleared gone (map slot_of rows) ++ s) (slots-alive cs))
+
+pub alive-within : (n : ℕ) (cs : List (List Literal)) (rows : List Row) → ((k : ℕ) → All (λ l. place_of l < n) (clause_at rows k)) → All (λ c. All (λ l. place_of l < n) c) cs → (k : ℕ) → All (λ l. place_of l < n) (clause_at (rows ++ map alive cs) k)
+alive-within n [] [] w a k = λ j d h. absurd (omega arith)
+alive-within n (c ∷ cs) [] w a zero = a 0 [] (omega arith)
+alive-within n (c ∷ cs) [] w a (suc k) = alive-within n cs [] w (λ j d h. a (suc j) d (omega arith)) k
+alive-within n cs (x ∷ xs) w a zero = w 0
+alive-within n cs (x ∷ xs) w a (suc k) = alive-within n cs xs (λ j. w (suc j)) a k
+
+-- the lists after a rewrite
+pub applied-matches : (gone : List ℕ) (added : List (List Literal)) (rows : List Row) (old new : List Room) (sw : ℕ → List ℕ) →
+    AreMatched rows old → length new ≡ length old → All (AreWithin (length old)) added →
+    ((p : ℕ) → sw p ≡ cond (touched p gone rows) (filter (live_in (killed gone rows)) (at old p)) (at old p)) →
+    ((p : ℕ) → at new p ≡ sw p ++ ids_from p (length rows) (map alive added)) →
+    AreMatched (killed gone rows ++ map alive added) new
+applied-matches gone added rows old new sw m e w s n =
+    let t = killed-thinned gone rows in record {
+      each = λ p.
+          let was : at old p ≡ ids_from p 0 rows = m.each p in
+          let thin : ids_from p 0 (killed gone rows) ≡ filter (live_in (killed gone rows)) (ids_from p 0 rows) = ids_from-thinned p 0 rows (killed gone rows) (live_in (killed gone rows)) t (λ k l. let z : 0 + k ≡ k = omega arith in ap (live_in (killed gone rows)) z) in
+          let still : touched p gone rows ≡ false → ids_from p 0 (killed gone rows) ≡ ids_from p 0 rows = ids_from-untouched p gone rows in
+          let made = ids_from-append p 0 (killed gone rows) (map alive added) in
+          let l = t.len in
+          let len : length rows ≡ 0 + length (killed gone rows) = omega arith in
+          let swept : sw p ≡ ids_from p 0 (killed gone rows) = grind (arith, common_steps, s p) in
+          n p ∙ (ap (λ z. z ++ ids_from p (length rows) (map alive added)) swept ∙ (ap (λ z. ids_from p 0 (killed gone rows) ++ ids_from p z (map alive added)) len ∙ sym made));
+      within = rw e (alive-within (length old) added (killed gone rows) (λ k. rw (t.same k) (m.within k)) w);
+    }
+
+pub killed-length : (gone : List ℕ) (rows : List Row) → length (killed gone rows) ≡ length rows
+killed-length gone rows = (killed-thinned gone rows).len
+
+pub known-after : (gone g : List ℕ) (rows new : List Row) → All (λ id. id < length rows) gone → g ≡ gone → new ≡ killed gone rows → All (λ id. id < length new) g
+known-after gone g rows new a e f = rw (f, e, killed-length gone rows) a
+
+pub within-after : (n : ℕ) (gone : List ℕ) (rows new : List Row) → ((k : ℕ) → All (λ l. place_of l < n) (clause_at rows k)) → new ≡ killed gone rows → (k : ℕ) → All (λ l. place_of l < n) (clause_at new k)
+within-after n gone rows new w f k = rw (f, (killed-thinned gone rows).same k) (w k)
+
+pub within-more : (n m : ℕ) (cs : List (List Literal)) → n ≤ m → All (AreWithin n) cs → All (AreWithin m) cs
+within-more n m cs h a = λ k d l j e i. let x = a k d l j e i in omega arith
+
+pub ids_where-rows : (p i : ℕ) (rows : List Row) → ids_from p i rows ≡ ids_where (slot_has p) i (slots_of rows)
+ids_where-rows p i [] = refl
+ids_where-rows p i (x ∷ xs) = let rest : ids_from p (i + 1) xs ≡ ids_where (slot_has p) (i + 1) (slots_of xs) = ids_where-rows p (i + 1) xs in
+    let step : (b : Bool) → cond (b && has p x.clause) (i ∷ ids_from p (i + 1) xs) (ids_from p (i + 1) xs) ≡ ids_where (slot_has p) i (cond b (Some x.clause) None ∷ slots_of xs) = λ (t : Bool). elim t as (λ b. cond (b && has p x.clause) (i ∷ ids_from p (i + 1) xs) (ids_from p (i + 1) xs) ≡ ids_where (slot_has p) i (cond b (Some x.clause) None ∷ slots_of xs)) [ true ↦ grind (arith, common_steps) | false ↦ rest ] in step x.live
+
+pub room-read : (lists : List Room) (q p : ℕ) (a : Room) → a ≡ get_or lists q a → q ≡ p → q < length lists → a.items ≡ at lists p
+room-read lists q p a e f h = let same : a ≡ room_at lists q = e ∙ get_or-any lists q a (record { items = []; spare = 0 }) h in rw (← f) (ap (λ (r : Room). r.items) same)
+
+-- the places that are kept free, as the catalog shows them
+pub spare-read : (lists : List Room) (p : ℕ) → get_or (spares_of lists) p 0 ≡ spare_at lists p
+spare-read [] p = refl
+spare-read (x ∷ xs) zero = refl
+spare-read (x ∷ xs) (suc p) = spare-read xs p
+
+-- the live clauses of slots put together
+pub live_clauses-append : (xs ys : List (Option (List Literal))) → live_clauses (xs ++ ys) ≡ live_clauses xs ++ live_clauses ys
+live_clauses-append [] ys = refl
+live_clauses-append (None ∷ xs) ys = live_clauses-append xs ys
+live_clauses-append (Some c ∷ xs) ys = ap (λ s. c ∷ s) (live_clauses-append xs ys)
+
+pub live_clauses-some : (cs : List (List Literal)) → live_clauses (map Some cs) ≡ cs
+live_clauses-some [] = refl
+live_clauses-some (c ∷ cs) = ap (λ s. c ∷ s) (live_clauses-some cs)
+
+-- what is counted less once a row is dead
+pub record Uncounted (rows : List Row) (k : ℕ) : Type 0 where
+  pub clauses : length (live_clauses (slots_of (set rows k (dead (row_at rows k))))) + cond (live_in rows k) 1 0 ≡ length (live_clauses (slots_of rows))
+  pub literals : literals_of (live_clauses (slots_of (set rows k (dead (row_at rows k))))) + cond (live_in rows k) (length (clause_at rows k)) 0 ≡ literals_of (live_clauses (slots_of rows))
+
+live_clauses-cons : (b : Bool) (c : List Literal) (s : List (Option (List Literal))) → live_clauses (cond b (Some c) None ∷ s) ≡ cond b (c ∷ live_clauses s) (live_clauses s)
+live_clauses-cons true c s = refl
+live_clauses-cons false c s = refl
+
+literals_of-cons : (b : Bool) (c : List Literal) (s : List (Option (List Literal))) → (length (live_clauses (cond b (Some c) None ∷ s)) ≡ cond b 1 0 + length (live_clauses s)) × (literals_of (live_clauses (cond b (Some c) None ∷ s)) ≡ cond b (length c) 0 + literals_of (live_clauses s))
+literals_of-cons true c s = (omega arith, sum_by-cons length c (live_clauses s))
+literals_of-cons false c s = (omega arith, omega arith)
+
+pub uncounted : (rows : List Row) (k : ℕ) → k < length rows → Uncounted rows k
+uncounted [] k h = absurd (omega arith)
+uncounted (x ∷ xs) zero h =
+    let now = literals_of-cons x.live x.clause (slots_of xs) in
+    record { clauses = omega (arith, now.0); literals = omega (arith, now.1) }
+uncounted (x ∷ xs) (suc k) h =
+    let rest = uncounted xs k (omega arith) in
+    let now = literals_of-cons x.live x.clause (slots_of xs) in
+    let then_ = literals_of-cons x.live x.clause (slots_of (set xs k (dead (row_at xs k)))) in
+    record { clauses = omega (arith, rest.clauses, now.0, then_.0); literals = omega (arith, rest.literals, now.1, then_.1) }
+
+pub row-read : (rows : List Row) (k : ℕ) (r : Row) → k < length rows → r ≡ get_or rows k r → row_at rows k ≡ r
+row-read rows k r h e = get_or-any rows k blank r h ∙ sym e
+
+uncounted_at : (rows : List Row) (k : ℕ) (r : Row) → k < length rows → r ≡ get_or rows k r →
+    (length (live_clauses (slots_of (set rows k (dead r)))) + cond r.live 1 0 ≡ length (live_clauses (slots_of rows)))
+    × (literals_of (live_clauses (slots_of (set rows k (dead r)))) + cond r.live (length r.clause) 0 ≡ literals_of (live_clauses (slots_of rows)))
+uncounted_at rows k r h e =
+    let u = uncounted rows k h in
+    let same : row_at rows k ≡ r = row-read rows k r h e in (
+      subst (λ (x : Row). length (live_clauses (slots_of (set rows k (dead x)))) + cond x.live 1 0 ≡ length (live_clauses (slots_of rows))) same u.clauses,
+      subst (λ (x : Row). literals_of (live_clauses (slots_of (set rows k (dead x)))) + cond x.live (length x.clause) 0 ≡ literals_of (live_clauses (slots_of rows))) same u.literals,
+    )
+
+pub count-room : (rows : List Row) (k : ℕ) (r : Row) (size : Size) → k < length rows → r ≡ get_or rows k r → IsSize size (slots_of rows) → (r.live ≡ true → 1 ≤ size.clauses) × (r.live ≡ true → length r.clause ≤ size.literals)
+count-room rows k r size h e z =
+    let u = uncounted_at rows k r h e in
+    (λ t. let f = ap {B = ℕ} (λ b. cond b 1 0) t in omega (arith, f, u.0, z.clauses), λ t. let f = ap {B = ℕ} (λ b. cond b (length r.clause) 0) t in omega (arith, f, u.1, z.literals))
+
+pub count-less : (rows : List Row) (k : ℕ) (r : Row) (size new : Size) → k < length rows → r ≡ get_or rows k r → IsSize size (slots_of rows) → new.clauses + cond r.live 1 0 ≡ size.clauses → new.literals + cond r.live (length r.clause) 0 ≡ size.literals → IsSize new (slots_of (set rows k (dead r)))
+count-less rows k r size new h e z f g =
+    let u = uncounted_at rows k r h e in
+    record { clauses = omega (arith, u.0, f, z.clauses); literals = omega (arith, u.1, g, z.literals) }
+
+pub kill-step : (gone : List ℕ) (i : ℕ) (rows : List Row) (r : Row) (all : List Row) → i < length gone → get_or gone i 0 < length rows → r ≡ get_or rows (get_or gone i 0) r → killed (drop i gone) rows ≡ all → killed (drop (i + 1) gone) (set rows (get_or gone i 0) (dead r)) ≡ all
+kill-step gone i rows r all h l e k =
+    let front : drop i gone ≡ get_or gone i 0 ∷ drop (i + 1) gone = rw (add-one, drop-cons gone i 0) in
+    let same : row_at rows (get_or gone i 0) ≡ r = row-read rows (get_or gone i 0) r l e in
+    rw (← same) (rw front at k)
+
+-- rows whose dead clauses may be gone
+pub record Buried (old new : List Row) : Type 0 where
+  pub len : length new ≡ length old
+  pub live : (k : ℕ) → live_in new k ≡ live_in old k
+  pub clauses : (k : ℕ) → (clause_at new k ≡ clause_at old k) ⊎ ((live_in old k ≡ false) × (clause_at new k ≡ []))
+
+buried-rest : (x y : Row) (xs ys : List Row) → Buried (x ∷ xs) (y ∷ ys) → Buried xs ys
+buried-rest x y xs ys t = record { len = let e = t.len in omega arith; live = λ k. t.live (suc k); clauses = λ k. t.clauses (suc k) }
+
+buried-slot : (x y : Row) → y.live ≡ x.live → (y.clause ≡ x.clause) ⊎ ((x.live ≡ false) × (y.clause ≡ [])) → slot_of y ≡ slot_of x
+buried-slot x y l c = elim c [ inl e ↦ rw (l, e) refl | inr e ↦ let f : y.live ≡ false = l ∙ e.0 in rw (f, e.0) refl ]
+
+pub buried-slots : (old new : List Row) → Buried old new → slots_of new ≡ slots_of old
+buried-slots [] [] b = refl
+buried-slots [] (y ∷ ys) b = let e = b.len in absurd (omega arith)
+buried-slots (x ∷ xs) [] b = let e = b.len in absurd (omega arith)
+buried-slots (x ∷ xs) (y ∷ ys) b =
+    let first : slot_of y ≡ slot_of x = buried-slot x y (b.live 0) (b.clauses 0) in
+    let rest : slots_of ys ≡ slots_of xs = buried-slots xs ys (buried-rest x y xs ys b) in
+    rw (first, rest) refl
+
+pub buried-ids : (p : ℕ) (old new : List Row) → Buried old new → ids_from p 0 new ≡ ids_from p 0 old
+buried-ids p old new b = ids_where-rows p 0 new ∙ (ap (ids_where (slot_has p) 0) (buried-slots old new b) ∙ sym (ids_where-rows p 0 old))
+
+none-within : (n : ℕ) → AreWithin n []
+none-within n = λ k d h. absurd (omega arith)
+
+pub buried-within : (n : ℕ) (old new : List Row) → Buried old new → ((k : ℕ) → AreWithin n (clause_at old k)) → (k : ℕ) → AreWithin n (clause_at new k)
+buried-within n old new b w k = elim (b.clauses k) [ inl e ↦ rw e (w k) | inr e ↦ rw e.1 (none-within n) ]
+
+pub replaced-slots : (gone : List ℕ) (added : List (List Literal)) (rows thin buried new : List Row) → thin ≡ killed gone rows → Buried thin buried → new ≡ buried ++ map alive added → slots_of new ≡ cleared gone (slots_of rows) ++ map Some added
+replaced-slots gone added rows thin buried new k b nn =
+    rw nn (slots-append buried (map alive added) ∙ (ap (λ x. x ++ slots_of (map alive added)) (buried-slots thin buried b ∙ (ap slots_of k ∙ slots-killed gone rows)) ∙ ap (λ x. cleared gone (slots_of rows) ++ x) (slots-alive added)))
+
+pub live_le : (s : List (Option (List Literal))) → length (live_clauses s) ≤ length s
+live_le [] = omega arith
+live_le (None ∷ s) = omega (arith, live_le s)
+live_le (Some c ∷ s) = omega (arith, live_le s)
+
+-- the tables after clauses were put in place of others
+pub replaced-table : (gone : List ℕ) (added : List (List Literal)) (rows thin buried new : List Row) (old swept lists : List Room) (marks marks1 marks2 : List Bool) (size size1 size2 : Size) →
+    IsClauseTable rows old marks size → All (AreWithin (length old)) added →
+    length marks1 ≡ length marks → ((p : ℕ) → marked marks1 p ≡ (marked marks p || touched p gone rows)) →
+    thin ≡ killed gone rows → IsSize size1 (slots_of thin) →
+    length swept ≡ length old → length marks2 ≡ length marks1 →
+    ((p : ℕ) → marked marks2 p ≡ (marked marks1 p && not (touched p gone thin))) →
+    ((p : ℕ) → at swept p ≡ cond (marked marks1 p && touched p gone thin) (filter (live_in thin) (at old p)) (at old p)) →
+    Buried thin buried →
+    length lists ≡ length swept → ((p : ℕ) → at lists p ≡ at swept p ++ ids_from p (length rows) (map alive added)) →
+    new ≡ buried ++ map alive added →
+    size2.clauses ≡ size1.clauses + length added → size2.literals ≡ size1.literals + literals_of added →
+    IsClauseTable new lists marks2 size2
+replaced-table gone added rows thin buried new old swept lists marks marks1 marks2 size size1 size2 s w ml mm k z sl ml2 mm2 si b ll li nn zc zl =
+    let same : (p : ℕ) → touched p gone thin ≡ touched p gone rows = λ p. rw k (touched-thinned p gone rows (killed gone rows) (killed-thinned gone rows)) in
+    let first : (p : ℕ) → marked marks p ≡ false = s.unmarked in
+    let matched : AreMatched (thin ++ map alive added) lists = rw k (applied-matches gone added rows old lists (λ p. at swept p) s.matched (ll ∙ sl) w (λ p. let m = mm p in let f = first p in let e = same p in let q = si p in rw (← k) (grind (arith, common_steps))) li) in
+    let slots : slots_of new ≡ slots_of thin ++ map Some added = rw nn (slots-append buried (map alive added) ∙ (ap (λ x. x ++ slots_of (map alive added)) (buried-slots thin buried b) ∙ ap (λ x. slots_of thin ++ x) (slots-alive added))) in
+    let live : live_clauses (slots_of new) ≡ live_clauses (slots_of thin) ++ added = ap live_clauses slots ∙ (live_clauses-append (slots_of thin) (map Some added) ∙ ap (λ x. live_clauses (slots_of thin) ++ x) (live_clauses-some added)) in
+    record {
+      matched = record {
+        each = λ p. matched.each p ∙ (ids_from-append p 0 thin (map alive added) ∙ (
+            let e : length thin ≡ length buried = sym b.len in
+            rw (nn, e) (sym (ids_from-append p 0 buried (map alive added) ∙ ap (λ x. x ++ ids_from p (0 + length buried) (map alive added)) (buried-ids p thin buried b)))));
+        within = rw (nn, ll, sl) (alive-within (length old) added buried (buried-within (length old) thin buried b (λ j. rw (k, (killed-thinned gone rows).same j) (s.matched.within j))) w);
+      };
+      marks_len = let e = s.marks_len in omega arith;
+      unmarked = λ p. let m = mm p in let f = first p in let e = same p in let q = mm2 p in grind (arith, common_steps);
+      sized = record {
+        clauses = rw (live, length-append (live_clauses (slots_of thin)) added) (omega (arith, z.clauses));
+        literals = rw live (omega (arith, z.literals, sum_by-append length (live_clauses (slots_of thin)) added));
+      };
+    }
+
+pub widened-table : (rows : List Row) (old new : List Room) (marks marks2 : List Bool) (size : Size) →
+    IsClauseTable rows old marks size → length old ≤ length new → ((p : ℕ) → at new p ≡ at old p) →
+    length new ≤ length marks2 → ((p : ℕ) → marked marks2 p ≡ marked marks p) →
+    IsClauseTable rows new marks2 size
+widened-table rows old new marks marks2 size s h e l m = record {
+  matched = record { each = λ p. e p ∙ s.matched.each p; within = λ k j d i. let x = s.matched.within k j d i in omega arith };
+  marks_len = l;
+  unmarked = λ p. m p ∙ s.unmarked p;
+  sized = s.sized;
+}
+
+pub empty-table : (rows : List Row) (lists : List Room) (marks : List Bool) (size : Size) → rows ≡ [] → lists ≡ [] → marks ≡ [] → size.clauses ≡ 0 → size.literals ≡ 0 → IsClauseTable rows lists marks size
+empty-table rows lists marks size e l m c z = rw (e, l, m) (record {
+  matched = record { each = λ p. refl; within = λ k j d h. absurd (omega arith) };
+  marks_len = omega arith;
+  unmarked = λ p. refl;
+  sized = record { clauses = c; literals = z };
+})
+
+dead-ids : (p i : ℕ) (rows : List Row) → ((k : ℕ) → live_in rows k ≡ false) → ids_from p i (rows ++ alive [] ∷ []) ≡ []
+dead-ids p i [] h = refl
+dead-ids p i (x ∷ xs) h = let first : x.live ≡ false = h 0 in let rest : ids_from p (i + 1) (xs ++ alive [] ∷ []) ≡ [] = dead-ids p (i + 1) xs (λ k. h (suc k)) in grind (arith, common_steps)
+
+dead-slots : (rows : List Row) → ((k : ℕ) → live_in rows k ≡ false) → slots_of rows ≡ replicate (length rows) None
+dead-slots [] h = refl
+dead-slots (x ∷ xs) h = let first : x.live ≡ false = h 0 in let rest : slots_of xs ≡ replicate (length xs) None = dead-slots xs (λ k. h (suc k)) in grind (arith, common_steps)
+
+pub refuted-slots : (c : List Literal) (rows thin new : List Row) → ((k : ℕ) → live_in thin k ≡ false) → length thin ≡ length rows → c ≡ [] → new ≡ thin ++ alive c ∷ [] → slots_of new ≡ replicate (length (slots_of rows)) None ++ Some [] ∷ []
+refuted-slots c rows thin new d l ce e =
+    let s : slots_of thin ≡ replicate (length thin) None = dead-slots thin d in
+    let n : length (slots_of rows) ≡ length rows = simp length-map in
+    rw (e, ce, n, ← l) (slots-append thin (alive [] ∷ []) ∙ ap (λ x. x ++ Some [] ∷ []) s)
+
+pub live_clauses-none : (n : ℕ) (s : List (Option (List Literal))) → live_clauses (replicate n None ++ s) ≡ live_clauses s
+live_clauses-none zero s = refl
+live_clauses-none (suc n) s = live_clauses-none n s
+
+only-empty : (n : ℕ) → All (AreWithin n) ([] ∷ [])
+only-empty n zero d h = λ j e i. absurd (omega arith)
+only-empty n (suc k) d h = absurd (omega arith)
+
+pub refuted-table : (c : List Literal) (rows thin new : List Row) (old lists : List Room) (marks : List Bool) (size size2 : Size) →
+    IsClauseTable rows old marks size → length thin ≡ length rows →
+    ((k : ℕ) → clause_at thin k ≡ clause_at rows k) → ((k : ℕ) → live_in thin k ≡ false) → c ≡ [] → new ≡ thin ++ alive c ∷ [] →
+    length lists ≡ length old → ((p : ℕ) → at lists p ≡ []) → size2.clauses ≡ 1 → size2.literals ≡ 0 →
+    IsClauseTable new lists marks size2
+refuted-table c rows thin new old lists marks size size2 s ln sm d ce n l e zc zl =
+    let live : live_clauses (slots_of new) ≡ [] ∷ [] = ap live_clauses (refuted-slots c rows thin new d ln ce n) ∙ live_clauses-none (length (slots_of rows)) (Some [] ∷ []) in
+    record {
+      matched = record {
+        each = λ p. e p ∙ sym (rw (n, ce) (dead-ids p 0 thin d));
+        within = rw (n, ce, l) (alive-within (length old) ([] ∷ []) thin (λ k. rw (sm k) (s.matched.within k)) (only-empty (length old)));
+      };
+      marks_len = let x = s.marks_len in omega arith;
+      unmarked = s.unmarked;
+      sized = record { clauses = rw live zc; literals = rw live zl };
+    }

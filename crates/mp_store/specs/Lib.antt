@@ -1,0 +1,14 @@
+pub mod Places
+pub mod Held
+pub mod Rewriting
+pub mod Soundness
+pub mod Occurrences
+pub mod Fixing
+pub mod Laws
+pub mod Queue
+pub mod Measures
+pub mod Techniques
+pub mod Turns
+pub mod Tables
+pub mod Ready
+pub mod Gathering

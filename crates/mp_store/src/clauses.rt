@@ -1,0 +1,164 @@
+ghost use Rattle.std.specs.Prelude.{◌≡◌, ◌+◌, ◌<◌, ◌≤◌, ◌++◌, ◌∷◌, [], OnOk, IfOk, length, All, Some, None, map, replicate, ℕ, true};
+ghost use Rattle.mp_store.specs.Held.{live_clauses, clause_of, is_live};
+ghost use Rattle.mp_store.specs.Occurrences.{ids_with};
+ghost use Rattle.mp_store.specs.Rewriting.{cleared};
+ghost use Rattle.mp_store.specs.Tables.{apart, literals_of, AreWithin, HasRoom};
+
+use crate::links;
+use crate::occurrences::Occurrences;
+use crate::rewrite::ClauseId;
+use crate::rows::{self, Row, Size};
+use mp_logic::{Clause, Clauses, ListOf, Lit, NoMemory};
+use std::alloc::Global;
+use std::marker::Model;
+
+/// Clauses by id, with the ids by literal.
+#[derive(Drop)]
+pub struct ClauseTable {
+    rows: Vec<Row>,
+    lists: Vec<Occurrences>,
+    marks: Vec<bool>,
+    size: Size,
+    alloc: Global,
+}
+
+impl Model for ClauseTable {
+    ghost use Rattle.std.specs.Prelude.{map, vec_len, vec_capacity, ◌-◌};
+    ghost use Rattle.mp_store.specs.Tables.{Catalog, IsClauseTable, slots_of, spares_of};
+
+    ghost Value = { Catalog };
+
+    ghost view = { λ t. record { slots = slots_of t.rows.items; free = spares_of t.lists.items; free_rows = vec_capacity t.rows - vec_len t.rows; literals = t.size.literals } };
+
+    ghost invariant = { λ t. IsClauseTable t.rows.items t.lists.items t.marks.items t.size };
+}
+
+impl ClauseTable {
+    pub fn new(alloc: Global) -> ClauseTable
+        ensures { result.slots ≡ [] }
+    {
+        ClauseTable {
+            rows: Vec::new(alloc),
+            lists: Vec::new(alloc),
+            marks: Vec::new(alloc),
+            size: Size {
+                clauses: 0,
+                literals: 0,
+            },
+            alloc,
+        }
+    }
+
+    /// Makes the tables by literal at least this long.
+    pub fn widen(&mut self, places: usize) -> Result<(), NoMemory>
+        ensures slots { self.new.slots ≡ self.old.slots }
+        ensures len { length self.old.free ≤ length self.new.free }
+        ensures ok { OnOk result (places ≤ length self.new.free) }
+    {
+        links::widen_marks(&mut self.marks, places)?;
+        links::widen(self.alloc, &mut self.lists, places)?;
+        Ok(())
+    }
+
+    /// Takes the memory that these clauses need.
+    pub fn reserve(&mut self, added: &[Clause]) -> Result<(), NoMemory>
+        requires { All (AreWithin (length self.old.free)) added.now }
+        ensures slots { self.new.slots ≡ self.old.slots }
+        ensures len { length self.new.free ≡ length self.old.free }
+        ensures ok { OnOk result (HasRoom added.now self.new) }
+    {
+        if !rows::are_countable(self.size.literals, added) {
+            return Err(NoMemory);
+        }
+        self.rows.reserve(added.len())?;
+        links::release_all(&mut self.lists, added);
+        links::reserve_all(&mut self.lists, added)?;
+        Ok(())
+    }
+
+    /// Puts clauses in place of others.
+    pub fn replace(&mut self, gone: &[ClauseId], added: Clauses)
+        requires known { All (λ id. id < length self.old.slots) gone.now }
+        requires within { All (AreWithin (length self.old.free)) added }
+        requires distinct { All (λ c. apart c ≡ true) added }
+        requires room { HasRoom added self.old }
+        ensures slots { self.new.slots ≡ cleared gone.now self.old.slots ++ map Some added }
+        ensures len { length self.new.free ≡ length self.old.free }
+    {
+        let first = self.rows.len();
+        rows::mark_all(&self.rows, &mut self.marks, gone);
+        rows::kill(&mut self.rows, &mut self.size, gone);
+        links::sweep_all(&mut self.lists, &mut self.marks, &self.rows, gone);
+        rows::bury(self.alloc, &mut self.rows, gone);
+        links::link_all(&mut self.lists, added.items(), first);
+        self.size.clauses += added.len() as u64;
+        self.size.literals += rows::literals(added.items());
+        rows::move_in(&mut self.rows, added);
+    }
+
+    /// Leaves no clause but the empty one, under the next id.
+    pub fn refute(&mut self)
+        requires { 1 ≤ self.old.free_rows }
+        ensures slots { self.new.slots ≡ replicate (length self.old.slots) None ++ Some [] ∷ [] }
+        ensures len { length self.new.free ≡ length self.old.free }
+    {
+        rows::kill_every(&mut self.rows);
+        self.rows.push_reserved(Row {
+            clause: ListOf::new(self.alloc),
+            live: true,
+        });
+        links::clear_every(&mut self.lists);
+        self.size = Size {
+            clauses: 1,
+            literals: 0,
+        };
+    }
+
+    pub fn live(&self, id: ClauseId) -> bool
+        ensures { result ≡ is_live self.now.slots id }
+    {
+        rows::is_live(&self.rows, id)
+    }
+
+    /// How many ids there are so far.
+    pub fn ids(&self) -> usize
+        ensures { result ≡ length self.now.slots }
+    {
+        self.rows.len()
+    }
+
+    pub fn clause(&self, id: ClauseId) -> &[Lit]
+        requires { is_live self.now.slots id ≡ true }
+        ensures { Some result.now ≡ clause_of self.now.slots id }
+    {
+        self.rows[id].clause.items()
+    }
+
+    /// The ids of the live clauses with the literal of a place, rising.
+    pub fn occurrences(&self, place: usize) -> &[ClauseId]
+        requires { place < length self.now.free }
+        ensures { result.now ≡ ids_with place self.now.slots }
+    {
+        self.lists[place].items()
+    }
+
+    pub fn size(&self) -> Size
+        ensures clauses { result.clauses ≡ length (live_clauses self.now.slots) }
+        ensures literals { result.literals ≡ literals_of (live_clauses self.now.slots) }
+    {
+        self.size
+    }
+
+    /// The live clauses, in order of id.
+    pub fn copy_live(&self, alloc: Global) -> Result<Clauses, NoMemory>
+        ensures { IfOk result (λ made. made ≡ live_clauses self.now.slots) }
+    {
+        let mut made = ListOf::new(alloc);
+        for row in &self.rows {
+            if row.live {
+                made.push(row.clause.copy(alloc)?)?;
+            }
+        }
+        Ok(made)
+    }
+}

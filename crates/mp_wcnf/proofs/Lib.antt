@@ -1,0 +1,9 @@
+pub mod Fronts
+pub mod Judged
+pub mod Meanings
+pub mod Public
+pub mod RoundTrip
+pub mod Runs
+pub mod Stands
+pub mod Sums
+pub mod Texts
