@@ -1,17 +1,18 @@
 -- How the top call ends, from how its run ended and the line that was said.
-use Rattle.std.proofs.Common.{◌≡◌, ◌≢◌, ◌⊎◌, ◌≤◌, ◌<◌, ◌+◌, ◌-◌, ℕ, List, [], ◌∷◌, ◌++◌, length, take, Option, Some, None, Result, Ok, Err, IfSome, refl, ap, sym, ◌∙◌, subst, arith, inl, inr}
+use Rattle.std.proofs.Common.{◌≡◌, ◌≢◌, ◌⊎◌, ℕ, List, take, Option, Result, Ok, Err, refl, ap, sym, ◌∙◌, subst, inl, inr}
 use Rattle.std.proofs.lemmas.Option.{IfSome_then}
-use Rattle.mp_host.specs.World.{World, Asked, Rose, SameButInput, emptied, after_told}
+use Rattle.mp_host.specs.World.{World, SameButInput, after_told}
+use Rattle.mp_map.specs.declared.solutions.Values.{Values}
 use Rattle.mp_wcnf.specs.declared.writer.Form.{Form}
-use Rattle.mp_wcnf.specs.declared.writer.Form.TheVariants as forms
 use Rattle.maxpre.specs.declared.status.Status.{Status}
 use Rattle.maxpre.specs.declared.status.Status.TheVariants as status
 use Rattle.maxpre.specs.declared.refusal.Refusal.{Refusal}
 use Rattle.maxpre.specs.declared.refusal.Refusal.TheVariants as refusals
-use Rattle.maxpre.specs.Outcomes.{AskedFirst, Logged, IsUntouched, Wrote, WrotePart, Refuses, RoseBy, EndsUnused}
-use Rattle.maxpre.specs.Refusals.{line_of, status_of, faults_of, IsFixed}
-use Rattle.maxpre.specs.Running.{HasPreprocessedPart, IsPreprocessRefusal, IsBlameless, IsGoodEnd, IsGoodInstance, RunsPreprocess, EndsPreprocess}
-use Rattle.maxpre.specs.Words.{IsPreprocess, IsFormChosen, form_word, preprocess_words}
+use Rattle.maxpre.specs.Outcomes.{Logged, IsUntouched, WrotePart, Refuses}
+use Rattle.maxpre.specs.Refusals.{line_of, status_of, IsFixed}
+use Rattle.maxpre.specs.PreprocessMode.{HasPreprocessedPart, RunsPreprocess, EndsPreprocess}
+use Rattle.maxpre.specs.ReconstructMode.{HasReconstructedPart, RunsReconstruct, EndsReconstruct}
+use Rattle.maxpre.specs.Running.{IsBlameless, IsGoodEnd, Runs, Ends}
 
 never_ok : (r : Refusal) → status_of r ≢ status.Ok
 never_ok refusals.NoMemory q = absurd cc
@@ -91,7 +92,14 @@ part_on old mid new map out same h = record {
 preprocessed_part_on : (techniques : List ℕ) (form : Form) (old mid new : World) (text : List ℕ) → IsUntouched mid new → HasPreprocessedPart techniques form old mid text → HasPreprocessedPart techniques form old new text
 preprocessed_part_on techniques form old mid new text same h = (h.0, h.1, h.2, part_on old mid new h.0 h.1 same h.3)
 
-pub logged_on : (old mid new : World) (line : List ℕ) → mid.log ≡ old.log → Logged mid new line → Logged old new line
+reconstructed_part_on : (form : Values) (old mid new : World) (map solution : List ℕ) → IsUntouched mid new → HasReconstructedPart form old mid map solution → HasReconstructedPart form old new map solution
+reconstructed_part_on form old mid new map solution same h = (
+  h.0,
+  h.1,
+  record { count = h.2.count; on_out = same.out ∙ h.2.on_out; map = same.map ∙ h.2.map; has_map = same.has_map ∙ h.2.has_map },
+)
+
+logged_on : (old mid new : World) (line : List ℕ) → mid.log ≡ old.log → Logged mid new line → Logged old new line
 logged_on old mid new line same h = record { count = h.count; is = h.is ∙ ap (λ (l : Option (List ℕ)). after_told l (take h.count line)) same }
 
 untouched_on : (old mid new : World) → SameButInput old mid → IsUntouched mid new → IsUntouched old new
@@ -101,35 +109,34 @@ untouched_on old mid new frame same = record {
   has_map = same.has_map ∙ ap (λ (w : World). w.has_map) frame;
 }
 
-pub ends_done : (file techniques map : List ℕ) (form : Form) (old new : World) (asked asked' : Option (List (List ℕ))) → RunsPreprocess file techniques map form old new asked asked' (Ok tt)
-    → EndsPreprocess file techniques map form old new asked asked' status.Ok
-ends_done file techniques map form old new asked asked' h = record {
+pub ends_done : (names : List (List ℕ)) (Done Part : World → Type 0) (Cause : Refusal → Type 0) (Good : Type 0) (old new : World) (asked asked' : Option (List (List ℕ)))
+    → Runs names Done Part Cause Good old new asked asked' (Ok tt) → Ends names Done Part Cause Good old new asked asked' status.Ok
+ends_done names Done Part Cause Good old new asked asked' h = record {
   done = λ q. h.done;
   part = λ q. absurd cc;
   refused = λ n. absurd (n refl);
   silent = λ q. h.log;
   untouched = λ n m. absurd (n refl);
-  accepts = IfSome_then (old.file file) h.accepts (λ text f good. tt);
-  names = h.names;
+  accepts = λ good. tt;
+  first_names = h.first_names;
   all_names = λ q. h.all_names;
 }
 
-pub ends_refused : (file techniques map : List ℕ) (form : Form) (old mid new : World) (asked asked' : Option (List (List ℕ))) (refusal : Refusal) (ended : Status)
-    → RunsPreprocess file techniques map form old mid asked asked' (Err refusal) → Refuses refusal mid new ended → IsUntouched mid new
-    → EndsPreprocess file techniques map form old new asked asked' ended
-ends_refused file techniques map form old mid new asked asked' refusal ended h said same =
+pub ends_refused : (names : List (List ℕ)) (Done Part : World → Type 0) (Cause : Refusal → Type 0) (Good : Type 0) (old mid new : World) (asked asked' : Option (List (List ℕ))) (refusal : Refusal) (ended : Status)
+    → Cause refusals.NoMemory → (Part mid → Part new) → Runs names Done Part Cause Good old mid asked asked' (Err refusal) → Refuses refusal mid new ended → IsUntouched mid new
+    → Ends names Done Part Cause Good old new asked asked' ended
+ends_refused names Done Part Cause Good old mid new asked asked' refusal ended free on h said same =
     let not_ok : ended ≢ status.Ok = λ q. never_ok said.said (sym said.status ∙ q) in
     record {
       done = λ q. absurd (not_ok q);
       part = λ q.
           let is = said_write_fault refusal mid new ended said q in
-          IfSome_then (old.file file) (h.part (ap (λ (r : Refusal). let e : Result (Unit {0}) Refusal = Err r in e) is)) (λ text p. preprocessed_part_on techniques form old mid new text same p);
+          on (h.part (ap (λ (r : Refusal). let e : Result (Unit {0}) Refusal = Err r in e) is));
       refused = λ n. (
         said.said,
         sym said.status,
         logged_on old mid new (line_of said.said) h.log said.line,
-        let Cause : Refusal → Type 0 = λ r. IsPreprocessRefusal r (old.file file) in
-            elim said.is [ inl e ↦ subst Cause (sym e) h.refused | inr m ↦ subst Cause (sym m.0) tt ],
+        elim said.is [ inl e ↦ subst Cause (sym e) h.refused | inr m ↦ subst Cause (sym m.0) free ],
       );
       silent = λ q. absurd (not_ok q);
       untouched = λ n m.
@@ -137,10 +144,23 @@ ends_refused file techniques map form old mid new asked asked' refusal ended h s
           let Fixed : Refusal → Type 0 = IsFixed in
           m (said.status ∙ ap status_of (said_itself refusal mid new ended said (subst Fixed (sym q) tt) ∙ q)) in
           untouched_on old mid new (h.untouched other) same;
-      accepts = IfSome_then (old.file file) h.accepts (λ text f good.
-          let Good : Status → Type 0 = IsGoodEnd in
+      accepts = λ good.
+          let GoodEnd : Status → Type 0 = IsGoodEnd in
           let blameless : Refusal → Type 0 = IsBlameless in
-          subst Good (sym said.status) (elim said.is [ inl e ↦ good_end said.said (subst blameless (sym e) (f good)) | inr m ↦ good_end said.said (subst blameless (sym m.0) tt) ]));
-      names = h.names;
+          subst GoodEnd (sym said.status) (elim said.is [ inl e ↦ good_end said.said (subst blameless (sym e) (h.accepts good)) | inr m ↦ good_end said.said (subst blameless (sym m.0) tt) ]);
+      first_names = h.first_names;
       all_names = λ q. absurd (not_ok q);
     }
+
+pub preprocess_ends_refused : (file techniques map : List ℕ) (form : Form) (old mid new : World) (asked asked' : Option (List (List ℕ))) (refusal : Refusal) (ended : Status)
+    → RunsPreprocess file techniques map form old mid asked asked' (Err refusal) → Refuses refusal mid new ended → IsUntouched mid new
+    → EndsPreprocess file techniques map form old new asked asked' ended
+preprocess_ends_refused file techniques map form old mid new asked asked' refusal ended h said same =
+    ends_refused _ _ _ _ _ old mid new asked asked' refusal ended tt (λ part. IfSome_then (old.file file) part (λ text p. preprocessed_part_on techniques form old mid new text same p)) h said same
+
+pub reconstruct_ends_refused : (file map : List ℕ) (form : Values) (old mid new : World) (asked asked' : Option (List (List ℕ))) (refusal : Refusal) (ended : Status)
+    → RunsReconstruct file map form old mid asked asked' (Err refusal) → Refuses refusal mid new ended → IsUntouched mid new
+    → EndsReconstruct file map form old new asked asked' ended
+reconstruct_ends_refused file map form old mid new asked asked' refusal ended h said same =
+    ends_refused _ _ _ _ _ old mid new asked asked' refusal ended tt
+    (λ part. IfSome_then (old.file map) part (λ m p. IfSome_then (old.file file) p (λ s q. reconstructed_part_on form old mid new m s same q))) h said same

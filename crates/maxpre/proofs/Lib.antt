@@ -1,7 +1,10 @@
+pub mod AnswersBack
 pub mod Commands
 pub mod Ended
 pub mod Ports
+pub mod PreprocessRuns
 pub mod Presented
+pub mod ReconstructRuns
 pub mod Refused
 pub mod Runs
 pub mod Simplified

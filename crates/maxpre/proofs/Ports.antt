@@ -1,12 +1,12 @@
 -- What the writes of a run leave on the ports.
 use Rattle.maxpre.specs.declared.refusal.Refusal.TheVariants as refusals
-use Rattle.std.proofs.Common.{◌≡◌, ◌⊎◌, ◌≤◌, ◌<◌, inl, inr, ◌++◌, ap, sym, refl, arith, take, length, ℕ, List, [], Option}
+use Rattle.std.proofs.Common.{◌≡◌, ◌⊎◌, inl, inr, sym, refl, arith, take, length, ℕ, List}
 use Rattle.std.proofs.lemmas.List.{take_all}
 use Rattle.std.proofs.Math.Seq.{take-length}
 use Rattle.mp_host.specs.World.{World, mapped, sent}
 use Rattle.mp_host.specs.declared.host.Port.TheVariants as ports
 use Rattle.mp_host.proofs.Worlds.{after_told-nil}
-use Rattle.maxpre.specs.Outcomes.{SaidLine, Wrote, WrotePart, IsUntouched, Logged, Refuses}
+use Rattle.maxpre.specs.Outcomes.{SaidLine, Wrote, WrotePart, WroteOut, WroteOutPart, IsUntouched, Refuses}
 use Rattle.maxpre.specs.Refusals.{line_of, status_of, IsFixed}
 use Rattle.maxpre.specs.declared.status.Status.{Status}
 use Rattle.maxpre.specs.declared.refusal.Refusal.{Refusal}
@@ -30,6 +30,14 @@ wrote_map old w1 w2 map out n a b = rw (b, a) (record { map_count = n; out_count
 -- the whole map and a front of the output were written
 pub wrote_out : (old w1 w2 w3 : World) (map out : List ℕ) (n : ℕ) → w1 ≡ mapped old → w2 ≡ sent w1 ports.Map map → w3 ≡ sent w2 ports.Out (take n out) → WrotePart old w3 map out
 wrote_out old w1 w2 w3 map out n a b c = rw (c, b, a) (record { map_count = length map; out_count = n; on_map = inr (rw (take_all (length map) map (omega arith)) refl); on_out = refl; order = λ h. omega arith })
+
+-- the output alone is whole
+pub wrote_output : (old new : World) (out : List ℕ) → new ≡ sent old ports.Out out → WroteOut old new out
+wrote_output old new out a = rw a (record { on_out = refl; map = refl; has_map = refl })
+
+-- a front of the output alone was written
+pub wrote_output_part : (old new : World) (out : List ℕ) (n : ℕ) → new ≡ sent old ports.Out (take n out) → WroteOutPart old new out
+wrote_output_part old new out n a = rw a (record { count = n; on_out = refl; map = refl; has_map = refl })
 
 -- a front of a line on the log is a front on the log
 pub refuses : (refusal said : Refusal) (old new : World) (ended : Status) → (said ≡ refusal) ⊎ ((said ≡ refusals.NoMemory) × (IsFixed refusal → ⊥)) → ended ≡ status_of said → SaidLine old new (line_of said) → Refuses refusal old new ended

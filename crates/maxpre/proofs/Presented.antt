@@ -1,27 +1,26 @@
 -- What presents a run: a valid map, and an instance that carries.
-use Rattle.std.proofs.Common.{◌≡◌, ◌≢◌, ◌⊎◌, ◌≤◌, ◌<◌, ◌+◌, ◌^◌, ℕ, Bool, true, false, not, cond, ◌||◌, ◌&&◌, List, [], ◌∷◌, ◌++◌, All, Contains, IsTrue, length, refl, ap, sym, ◌∙◌, subst, arith, inl, inr, lit<}
+use Rattle.std.proofs.Common.{◌≡◌, ◌≤◌, ◌<◌, ◌+◌, ◌^◌, ℕ, Bool, true, false, not, cond, ◌||◌, ◌&&◌, List, [], ◌∷◌, ◌++◌, All, Contains, length, refl, ap, sym, ◌∙◌, subst, arith, inl, inr, lit<}
 use Rattle.std.specs.Prelude.{nat_eq, nat_lt, nat_le, max}
-use Rattle.std.specs.List.{list_any, slice_index_or}
+use Rattle.std.specs.List.{list_any}
 use Rattle.std.proofs.lemmas.Bool.{and_parts, or_cases, or_parts, eq-eqb, eqb-true, ltb-true, leb-true, true≢false, false≢true}
 use Rattle.std.proofs.lemmas.List.{append-nil}
 use Rattle.mp_logic.specs.Literal.{Literal, negation}
-use Rattle.mp_logic.specs.Formula.{Formula, IsFormula}
-use Rattle.mp_logic.specs.Truth.{value_of, clause_value, weights_of, IsHardModel}
+use Rattle.mp_logic.specs.Formula.{IsFormula}
+use Rattle.mp_logic.specs.Truth.{value_of, weights_of}
 use Rattle.mp_logic.specs.Optimum.{HasHardModel}
-use Rattle.mp_logic.specs.Keeping.{State, IsModel, Keeps, total_of}
-use Rattle.mp_logic.specs.Carrying.{WrittenForm, ReconstructionMap, IsLabelView, Presents, Carries, map_of}
+use Rattle.mp_logic.specs.Keeping.{State, IsModel, total_of}
+use Rattle.mp_logic.specs.Carrying.{WrittenForm, ReconstructionMap, Presents, Carries, map_of}
 use Rattle.mp_logic.specs.Labelled.{IsLabelled, IsProper, IsWrittenForm, names_rise}
 use Rattle.mp_logic.specs.EndStates.{NoUnits}
-use Rattle.mp_logic.specs.Weights.{weight_bound}
 use Rattle.mp_logic.specs.declared.instances.Repair.{Repair}
 use Rattle.mp_logic.proofs.Carried.{keeping_carries, refutation_carries}
 use Rattle.mp_logic.proofs.Members.{Contains-none, Contains-first, Contains-later, Contains-cases, satisfied}
 use Rattle.mp_labels.specs.LabelView.{positive}
-use Rattle.mp_labels.specs.UnitForm.{IsPlainForm, IsUnitForm, Occurs, refuted_form}
-use Rattle.mp_map.specs.Maps.{IsMap}
+use Rattle.mp_labels.specs.UnitForm.{IsPlainForm, Occurs, refuted_form}
+use Rattle.mp_map.specs.Maps.{IsMap, reconstruction_of}
 use Rattle.mp_map.specs.declared.maps.MapFile.{MapFile}
-use Rattle.maxpre.specs.Preprocessing.{IsRefutedInstance, way_back}
-use Rattle.maxpre.specs.Presenting.{IsPropagated, PresentsRun}
+use Rattle.maxpre.specs.Preprocessing.{IsRefutedInstance}
+use Rattle.maxpre.specs.Presenting.{PresentsRun}
 use Rattle.maxpre.proofs.Tight.{tight}
 
 -- the test for an empty clause finds one exactly where there is one
@@ -115,7 +114,7 @@ presents-unit original s repairs w e few none =
       original_vars = refl;
       written_vars = refl;
       carries = λ f view ok same v k.
-          let whole : map_of f repairs w ≡ way_back (file_of original w repairs) =
+          let whole : map_of f repairs w ≡ reconstruction_of (file_of original w repairs) =
           ap (λ (rs : List Repair). record { original = f.vars; inner = w.inner; offset = w.offset; names = w.names; repairs = rs }) (ap (λ (rs : List Repair). repairs ++ rs) u.repairs ∙ append-nil repairs)
           ∙ ap (λ (n : ℕ). record { original = n; inner = w.inner; offset = w.offset; names = w.names; repairs = repairs }) same in
           let P : ReconstructionMap → Type 0 = λ m. Carries f w.«instance» m in
@@ -135,7 +134,7 @@ presents-refuted original s repairs w e empty =
       valid = valid original s repairs [] w e (lit< tt) (λ k d l. absurd (omega arith));
       original_vars = refl;
       written_vars = refl;
-      carries = λ f view ok same v k. refutation_carries f w.«instance» view s repairs (way_back (file_of original w [])) v k (no_model s empty) none;
+      carries = λ f view ok same v k. refutation_carries f w.«instance» view s repairs (reconstruction_of (file_of original w [])) v k (no_model s empty) none;
       propagated = λ p. let Q : WrittenForm → Type 0 = λ x. IsRefutedInstance x.«instance» in inr (subst Q (sym is) (record { vars = refl; hard = refl; soft = refl }));
       tight = tight w.«instance» e.formula e.all_occur;
       below = omega (arith, e.total, e.labelled.below);

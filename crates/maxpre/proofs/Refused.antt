@@ -1,5 +1,5 @@
 -- Why a text is refused.
-use Rattle.std.proofs.Common.{◌≡◌, ◌≢◌, ℕ, List}
+use Rattle.std.proofs.Common.{◌≢◌, ℕ, List}
 use Rattle.mp_wcnf.specs.Refusals.{IsRefused}
 use Rattle.mp_wcnf.specs.declared.errors.ReadError.{ReadError}
 use Rattle.mp_wcnf.specs.declared.errors.ReadError.TheVariants as errors

@@ -1,14 +1,13 @@
 -- What running techniques leaves.
-use Rattle.std.proofs.Common.{◌≡◌, ◌≢◌, ◌⊎◌, ◌<◌, ◌+◌, ℕ, Bool, true, List, [], ◌∷◌, ◌++◌, All, Contains, get_or, length, refl, ap, sym, ◌∙◌, subst, arith, inl, inr, codes}
+use Rattle.std.proofs.Common.{◌≡◌, ◌≢◌, ◌<◌, ◌+◌, ℕ, List, [], ◌∷◌, Contains, get_or, length, refl, ap, sym, ◌∙◌, subst, arith, inl, inr, codes}
 use Rattle.mp_logic.specs.Literal.{Literal}
 use Rattle.mp_logic.specs.Keeping.{State, Keeps}
-use Rattle.mp_logic.specs.EndStates.{NoUnits}
 use Rattle.mp_logic.specs.declared.instances.Repair.{Repair}
 use Rattle.std.proofs.lemmas.Bool.{cases_eq}
 use Rattle.std.proofs.lemmas.List.{append-nil}
 use Rattle.mp_logic.proofs.Kept.{keeping_is_reflexive, keeping_joins}
 use Rattle.mp_logic.proofs.Members.{Contains-first}
-use Rattle.mp_store.specs.Held.{Held, labelled_of, live_clauses}
+use Rattle.mp_store.specs.Held.{Held, labelled_of}
 use Rattle.mp_store.specs.Soundness.{IsStore}
 use Rattle.maxpre.specs.Presenting.{IsPropagated}
 use Rattle.maxpre.specs.Simplifying.{HasNoUnits, KeptSince}

@@ -1,6 +1,10 @@
+pub mod Commands
 pub mod Outcomes
+pub mod PreprocessMode
 pub mod Preprocessing
 pub mod Presenting
+pub mod ReconstructMode
+pub mod Reconstructing
 pub mod Refusals
 pub mod Running
 pub mod Simplifying

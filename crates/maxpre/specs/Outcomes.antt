@@ -1,5 +1,5 @@
 -- What a run leaves on a host's ports, and what it asked the host for.
-use Rattle.std.specs.Prelude.{◌≡◌, ◌⊎◌, ◌<◌, ◌≤◌, ℕ, ◌+◌, List, [], ◌∷◌, ◌++◌, take, length, Option}
+use Rattle.std.specs.Prelude.{◌≡◌, ◌⊎◌, ◌<◌, ◌≤◌, ℕ, ◌+◌, List, take, length, Option}
 use Rattle.mp_host.specs.World.{World, Asked, sent, emptied, after_told, last_count}
 use Rattle.mp_host.specs.declared.host.Port.TheVariants as ports
 use Rattle.maxpre.specs.declared.status.Status.{Status}
@@ -44,6 +44,19 @@ pub record WrotePart (old new : World) (map out : List ℕ) : Type 0 where
   pub on_map : (new.map ≡ old.map) ⊎ (new.map ≡ after_told (emptied old.map) (take map_count map))
   pub on_out : new.out ≡ after_told old.out (take out_count out)
   pub order : 0 < out_count → length map ≤ map_count
+
+-- the whole output went out, and no map was created
+pub record WroteOut (old new : World) (out : List ℕ) : Type 0 where
+  pub on_out : new.out ≡ after_told old.out out
+  pub map : new.map ≡ old.map
+  pub has_map : new.has_map ≡ old.has_map
+
+-- a front of the output went out, and no map was created
+pub record WroteOutPart (old new : World) (out : List ℕ) : Type 0 where
+  pub count : ℕ
+  pub on_out : new.out ≡ after_told old.out (take count out)
+  pub map : new.map ≡ old.map
+  pub has_map : new.has_map ≡ old.has_map
 
 -- the run ended with this refusal, or with want of memory where its line names a place, and said the line of that end
 pub record Refuses (refusal : Refusal) (old new : World) (ended : Status) : Type 0 where

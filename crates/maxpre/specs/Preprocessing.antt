@@ -1,8 +1,7 @@
 -- What preprocessing makes of the text of an instance.
 use Rattle.std.specs.Prelude.{◌≡◌, ◌≢◌, ◌⊎◌, ◌+◌, ◌-◌, ◌<◌, ℕ, true, false, List, [], ◌∷◌, length, codes}
-use Rattle.mp_logic.specs.Literal.{Literal}
 use Rattle.mp_logic.specs.Formula.{Formula}
-use Rattle.mp_logic.specs.Carrying.{ReconstructionMap, Carries}
+use Rattle.mp_logic.specs.Carrying.{Carries}
 use Rattle.mp_logic.specs.EndStates.{NoUnits}
 use Rattle.mp_logic.specs.Weights.{weight_bound}
 use Rattle.mp_logic.specs.declared.limits.Limits.{Limits}
@@ -13,7 +12,7 @@ use Rattle.mp_wcnf.specs.declared.errors.ReadError.{ReadError}
 use Rattle.mp_wcnf.specs.declared.errors.ReadError.TheVariants as errors
 use Rattle.mp_wcnf.specs.declared.writer.Form.{Form}
 use Rattle.mp_labels.specs.LabelView.{long_softs}
-use Rattle.mp_map.specs.Maps.{IsMap, map_text}
+use Rattle.mp_map.specs.Maps.{IsMap, map_text, reconstruction_of}
 use Rattle.mp_map.specs.declared.maps.MapFile.{MapFile}
 use Rattle.maxpre.specs.declared.refusal.Exceeded.{Exceeded}
 use Rattle.maxpre.specs.declared.refusal.Exceeded.TheVariants as limits
@@ -23,10 +22,6 @@ use Rattle.maxpre.specs.declared.refusal.Refusal.TheVariants as refusals
 -- the limits of the program
 abbrev pub program_limits : Limits
 program_limits = record { variables = 8388607; inner = 16777215; clauses = 33554432; literals = 268435456; weight = weight_bound - 1 }
-
--- the way back that a map file tells
-abbrev pub way_back : MapFile → ReconstructionMap
-way_back m = record { original = m.original; inner = m.inner; offset = m.offset; names = m.names; repairs = m.repairs }
 
 -- the hard clauses 1 and -1 and no other clause
 pub record IsRefutedInstance (g : Formula) : Type 0 where
@@ -50,7 +45,7 @@ pub record Preprocesses (techniques : List ℕ) (form : Form) (text map out : Li
   pub map_valid : IsMap way
   pub original_vars : way.original ≡ original.vars
   pub written_vars : way.written ≡ written.vars
-  pub carries : Carries original written (way_back way)
+  pub carries : Carries original written (reconstruction_of way)
   pub propagated : techniques ≢ codes "#" → NoUnits written.hard ⊎ IsRefutedInstance written
 
 -- the text passes this limit of the program

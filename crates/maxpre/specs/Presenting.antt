@@ -1,17 +1,16 @@
 -- What a run of techniques leaves, and the instance and the map that present it: private functions speak of these.
-use Rattle.std.specs.Prelude.{◌≡◌, ◌⊎◌, ◌≤◌, ◌<◌, ℕ, List, [], All, Contains}
+use Rattle.std.specs.Prelude.{◌≡◌, ◌⊎◌, ◌<◌, ℕ, List, [], Contains}
 use Rattle.mp_logic.specs.Formula.{Formula, IsFormula}
 use Rattle.mp_logic.specs.Keeping.{State, Keeps}
 use Rattle.mp_logic.specs.Carrying.{IsLabelView, Carries}
 use Rattle.mp_logic.specs.EndStates.{NoUnits}
-use Rattle.mp_logic.specs.Labelled.{IsProper}
 use Rattle.mp_logic.specs.Truth.{weights_of}
 use Rattle.mp_logic.specs.Weights.{weight_bound}
 use Rattle.mp_logic.specs.declared.instances.Repair.{Repair}
-use Rattle.mp_map.specs.Maps.{IsMap}
+use Rattle.mp_map.specs.Maps.{IsMap, reconstruction_of}
 use Rattle.mp_map.specs.declared.maps.MapFile.{MapFile}
 use Rattle.mp_wcnf.specs.Writing.{IsTight}
-use Rattle.maxpre.specs.Preprocessing.{IsRefutedInstance, way_back}
+use Rattle.maxpre.specs.Preprocessing.{IsRefutedInstance}
 
 -- units are propagated, or a clause is empty
 abbrev pub IsPropagated : State → Type 0
@@ -22,7 +21,7 @@ pub record PresentsRun (original : ℕ) (s : State) (repairs : List Repair) (g :
   pub valid : IsMap m
   pub original_vars : m.original ≡ original
   pub written_vars : m.written ≡ g.vars
-  pub carries : (f : Formula) (view : State) → IsFormula f.vars f.hard f.soft → f.vars ≡ original → IsLabelView f view → Keeps view s repairs → Carries f g (way_back m)
+  pub carries : (f : Formula) (view : State) → IsFormula f.vars f.hard f.soft → f.vars ≡ original → IsLabelView f view → Keeps view s repairs → Carries f g (reconstruction_of m)
   pub propagated : IsPropagated s → NoUnits g.hard ⊎ IsRefutedInstance g
   pub tight : IsTight g
   pub below : weights_of g.soft < weight_bound

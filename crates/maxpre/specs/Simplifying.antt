@@ -1,7 +1,7 @@
 -- What a run of techniques leaves in a store: private functions speak of these.
 use Rattle.std.specs.Prelude.{◌≡◌, ◌⊎◌, true, List, ◌++◌}
 use Rattle.mp_logic.specs.EndStates.{NoUnits}
-use Rattle.mp_logic.specs.Keeping.{State, Keeps}
+use Rattle.mp_logic.specs.Keeping.{Keeps}
 use Rattle.mp_logic.specs.declared.instances.Repair.{Repair}
 use Rattle.mp_store.specs.Held.{Held, labelled_of, live_clauses}
 

@@ -1,5 +1,7 @@
 -- Which words are a command.
 use Rattle.std.specs.Prelude.{◌≡◌, ◌≢◌, ◌⊎◌, ℕ, List, [], ◌∷◌, ◌++◌, codes, All}
+use Rattle.mp_map.specs.declared.solutions.Values.{Values}
+use Rattle.mp_map.specs.declared.solutions.Values.TheVariants as values
 use Rattle.mp_wcnf.specs.declared.writer.Form.{Form}
 use Rattle.mp_wcnf.specs.declared.writer.Form.TheVariants as forms
 
@@ -33,6 +35,28 @@ pub record IsPreprocess (words : List (List ℕ)) (file techniques map : List �
   pub spelled : words ≡ preprocess_words file techniques map rest
   pub chosen : IsFormChosen rest form
 
--- the words are a command
+abbrev pub values_word : Values → List ℕ
+values_word values.Bits = codes "--values=bits"
+values_word values.Literals = codes "--values=literals"
+
+-- `reconstruct FILE --mapfile=NAME` and then these words
+abbrev pub reconstruct_words : List ℕ → List ℕ → List (List ℕ) → List (List ℕ)
+reconstruct_words file map rest = codes "reconstruct" ∷ file ∷ (codes "--mapfile=" ++ map) ∷ rest
+
+-- no further word, for bits, or the word of a form of values
+abbrev pub AreValuesChosen : List (List ℕ) → Values → Type 0
+AreValuesChosen rest form = ((rest ≡ []) × (form ≡ values.Bits)) ⊎ (rest ≡ values_word form ∷ [])
+
+-- the words ask to carry the solution in a file back by a map
+pub record IsReconstruct (words : List (List ℕ)) (file map : List ℕ) (form : Values) : Type 0 where
+  pub operand : IsOperand file
+  pub named : map ≢ []
+  pub rest : List (List ℕ)
+  pub spelled : words ≡ reconstruct_words file map rest
+  pub chosen : AreValuesChosen rest form
+
+-- the words are a command of one of the modes
 abbrev pub IsCommandLine : List (List ℕ) → Type 0
-IsCommandLine words = (file : List ℕ) × (techniques : List ℕ) × (map : List ℕ) × (form : Form) × IsPreprocess words file techniques map form
+IsCommandLine words =
+    ((file : List ℕ) × (techniques : List ℕ) × (map : List ℕ) × (form : Form) × IsPreprocess words file techniques map form)
+    ⊎ ((file : List ℕ) × (map : List ℕ) × (form : Values) × IsReconstruct words file map form)

@@ -1,9 +1,12 @@
 //! Reading the words of a command.
 ghost use Rattle.std.specs.Prelude.{◌≡◌, ◌≢◌, ◌≤◌, ◌↔◌, ℕ, List, [], ◌∷◌, ◌++◌, IfSome, IfNone, IsTrue, length, drop};
+ghost use Rattle.mp_map.specs.declared.solutions.Values.{Values};
 ghost use Rattle.mp_wcnf.specs.declared.writer.Form.{Form};
-ghost use Rattle.maxpre.specs.Words.{IsOperand, IsTechniques, IsFormChosen, IsPreprocess, form_word, preprocess_words};
+ghost use Rattle.maxpre.specs.Commands.{Spells};
+ghost use Rattle.maxpre.specs.Words.{IsOperand, IsTechniques, IsFormChosen, IsPreprocess, AreValuesChosen, IsCommandLine, IsReconstruct, form_word, preprocess_words, reconstruct_words, values_word};
 
 use crate::words::Words;
+use mp_map::Values;
 use mp_wcnf::Form;
 
 /// The words of `preprocess`.
@@ -15,8 +18,37 @@ pub struct PreprocessWords<'a> {
     pub form: Form,
 }
 
-/// Reads the words as a command to preprocess; none exactly where they are not one.
-pub fn read_preprocess(words: &Words) -> Option<PreprocessWords<'_>>
+/// The words of `reconstruct`.
+#[derive(Clone, Copy, Debug)]
+pub struct ReconstructWords<'a> {
+    pub file: &'a str,
+    pub map: &'a str,
+    pub form: Values,
+}
+
+/// What the words ask for.
+#[derive(Clone, Copy, Debug)]
+pub enum Command<'a> {
+    Preprocess(PreprocessWords<'a>),
+    Reconstruct(ReconstructWords<'a>),
+}
+
+/// Reads the words as a command; none exactly where they are not one.
+pub fn read_command(words: &Words) -> Option<Command<'_>>
+    ensures some { IfSome result (Spells words.now) }
+    ensures none { IfNone result (IsCommandLine words.now → ⊥) }
+{
+    match read_preprocess(words) {
+        Some(found) => Some(Command::Preprocess(found)),
+        None => match read_reconstruct(words) {
+            Some(found) => Some(Command::Reconstruct(found)),
+            None => None,
+        },
+    }
+}
+
+// Reads the words as a command to preprocess; none exactly where they are not one.
+fn read_preprocess(words: &Words) -> Option<PreprocessWords<'_>>
     ensures some { IfSome result (λ p. IsPreprocess words.now p.file.now p.techniques.now p.map.now p.form) }
     ensures none { IfNone result ((file techniques map : List ℕ) (form : Form) → IsPreprocess words.now file techniques map form → ⊥) }
 {
@@ -39,7 +71,26 @@ pub fn read_preprocess(words: &Words) -> Option<PreprocessWords<'_>>
     None
 }
 
-// What the first four words name.
+// Reads the words as a command to reconstruct; none exactly where they are not one.
+fn read_reconstruct(words: &Words) -> Option<ReconstructWords<'_>>
+    ensures some { IfSome result (λ p. IsReconstruct words.now p.file.now p.map.now p.form) }
+    ensures none { IfNone result ((file map : List ℕ) (form : Values) → IsReconstruct words.now file map form → ⊥) }
+{
+    let (file, map) = match first_three(words) {
+        Some(found) => found,
+        None => return None,
+    };
+    let form = match values_chosen(words) {
+        Some(found) => found,
+        None => return None,
+    };
+    if is_operand(file) && !map.is_empty() {
+        return Some(ReconstructWords { file, map, form });
+    }
+    None
+}
+
+// What the first four words name, for `preprocess`.
 fn first_four(words: &Words) -> Option<(&str, &str, &str)>
     ensures some { IfSome result (λ p. words.now ≡ preprocess_words p.0.now p.1.now p.2.now (drop 4 words.now)) }
     ensures none { IfNone result ((file techniques map : List ℕ) (rest : List (List ℕ)) → words.now ≡ preprocess_words file techniques map rest → ⊥) }
@@ -56,6 +107,21 @@ fn first_four(words: &Words) -> Option<(&str, &str, &str)>
         None => return None,
     };
     Some((words.text(1), techniques, map))
+}
+
+// What the first three words name, for `reconstruct`.
+fn first_three(words: &Words) -> Option<(&str, &str)>
+    ensures some { IfSome result (λ p. words.now ≡ reconstruct_words p.0.now p.1.now (drop 3 words.now)) }
+    ensures none { IfNone result ((file map : List ℕ) (rest : List (List ℕ)) → words.now ≡ reconstruct_words file map rest → ⊥) }
+{
+    if words.len() < 3 || words.text(0) != "reconstruct" {
+        return None;
+    }
+    let map = match option_value(words.text(2), "--mapfile=") {
+        Some(found) => found,
+        None => return None,
+    };
+    Some((words.text(1), map))
 }
 
 // What stands behind the front of an option word.
@@ -91,6 +157,35 @@ fn form_of(word: &str) -> Option<Form>
     }
     if word == "--form=p" {
         return Some(Form::P);
+    }
+    None
+}
+
+// The form of values that the fourth word chooses, and bits where there is none.
+fn values_chosen(words: &Words) -> Option<Values>
+    requires { 3 ≤ length words.now }
+    ensures some { IfSome result (AreValuesChosen (drop 3 words.now)) }
+    ensures none { IfNone result ((form : Values) → AreValuesChosen (drop 3 words.now) form → ⊥) }
+{
+    match words.len() {
+        3 => Some(Values::Bits),
+        4 => match values_of(words.text(3)) {
+            Some(form) => Some(form),
+            None => None,
+        },
+        _ => None,
+    }
+}
+
+fn values_of(word: &str) -> Option<Values>
+    ensures some { IfSome result (λ form. word.now ≡ values_word form) }
+    ensures none { IfNone result ((form : Values) → word.now ≡ values_word form → ⊥) }
+{
+    if word == "--values=bits" {
+        return Some(Values::Bits);
+    }
+    if word == "--values=literals" {
+        return Some(Values::Literals);
     }
     None
 }

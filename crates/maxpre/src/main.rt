@@ -1,21 +1,25 @@
 //! The program `maxpre`: the words of its command line, the modes, the exit statuses, and the top call over any host.
 //!
-//! It promises, as clauses of `top::maxpre`, that what it writes is right for the file that it reads: where `preprocess`
+//! It promises, as clauses of `top::maxpre`, that what it writes is right for the files that it reads: where `preprocess`
 //! ends with status 0, the written instance, offset and map carry the models and the optimum of the original back
-//! (`preprocess`, `specs/Running`, `specs/Preprocessing`); that each other status has its cause; and that a refusal leaves
-//! the outputs untouched. It stands on all library crates.
+//! (`specs/PreprocessMode`, `specs/Preprocessing`); where `reconstruct` does, its output is the solution, carried back by
+//! the map (`specs/ReconstructMode`, `specs/Reconstructing`); that each other status has its cause; and that a refusal
+//! leaves the outputs untouched (`specs/Running`). It stands on all library crates.
 #![tactic(auto)]
 
 pub mod command;
+pub mod inputs;
 pub mod limits;
 pub mod outputs;
 pub mod preprocess;
+#[cfg(test)]
+mod preprocess_tests;
+pub mod reconstruct;
+#[cfg(test)]
+mod reconstruct_tests;
 pub mod refusal;
-pub mod run;
 pub mod simplify;
 pub mod status;
-#[cfg(test)]
-mod tests;
 pub mod top;
 pub mod words;
 

@@ -2,7 +2,7 @@
 ghost use Rattle.std.specs.Prelude.{◌≡◌, ◌≢◌, ℕ, ◌+◌, ◌-◌, ◌<◌, ◌≤◌, [], ◌∷◌, OnOk, OnErr};
 ghost use Rattle.mp_host.specs.World.{World, Rose, Asked, mapped, sent};
 ghost use Rattle.mp_host.specs.declared.host.Port.TheVariants as ports;
-ghost use Rattle.maxpre.specs.Outcomes.{RoseBy, Logged, SaidLine, Wrote, WrotePart, Refuses, IsUntouched};
+ghost use Rattle.maxpre.specs.Outcomes.{RoseBy, Logged, SaidLine, Wrote, WrotePart, WroteOut, WroteOutPart, Refuses, IsUntouched};
 ghost use Rattle.maxpre.specs.Refusals.{line_of, status_of, faults_of, IsFixed};
 
 use crate::refusal::{Refusal, fixed_line, placed, placed_line};
@@ -29,6 +29,23 @@ pub fn write_texts<H: Host>(host: &mut H, name: &str, map: &[u8], out: &[u8]) ->
         return Err(Failed);
     }
     Ok(())
+}
+
+/// Writes the output alone; it stops at the first fault.
+#[tactic(auto, using(crate::proofs::Ports::wrote_output, crate::proofs::Ports::wrote_output_part))]
+pub fn write_out<H: Host>(host: &mut H, out: &[u8]) -> Result<(), Failed>
+    ensures whole { OnOk result (WroteOut (H.world host.old) (H.world host.new) out.now) }
+    ensures part { OnErr result (WroteOutPart (H.world host.old) (H.world host.new) out.now) }
+    ensures log { (H.world host.new).log ≡ (H.world host.old).log }
+    ensures fault { OnErr result (Rose (H.write_faults host.old) (H.write_faults host.new)) }
+    ensures later { H.write_faults host.old ≤ H.write_faults host.new }
+    ensures reads { H.read_faults host.new ≡ H.read_faults host.old }
+    ensures names { H.asked host.new ≡ H.asked host.old }
+{
+    match write_all(host, Port::Out, out) {
+        Ok(()) => Ok(()),
+        Err(_fault) => Err(Failed),
+    }
 }
 
 /// Says the line of a refusal, and answers how the run ends.

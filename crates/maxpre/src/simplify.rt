@@ -22,14 +22,10 @@ pub struct Simplified {
 }
 
 /// Runs the named techniques, one after the other; `#` names none.
-pub fn simplify(
-    alloc: Global,
-    labelled: &Labelled,
-    techniques: &str,
-) -> Result<Simplified, NoMemory>
-    requires vars { labelled.now.vars ≤ 16777215 }
+pub fn simplify(alloc: Global, labelled: Labelled, techniques: &str) -> Result<Simplified, NoMemory>
+    requires vars { labelled.vars ≤ 16777215 }
     requires techniques { IsTechniques techniques.now }
-    ensures keeps { IfOk result (λ s. Keeps labelled.now s.labelled s.repairs) }
+    ensures keeps { IfOk result (λ s. Keeps labelled s.labelled s.repairs) }
     ensures vars { IfOk result (λ s. s.labelled.vars ≤ 16777215) }
     ensures proper { IfOk result (λ s. All (IsProper s.labelled.vars) s.repairs) }
     ensures propagated { IfOk result (λ s. techniques.now ≢ codes "#" → IsPropagated s.labelled) }
@@ -45,14 +41,14 @@ pub fn simplify(
 }
 
 // The store of a labelled state.
-fn started(alloc: Global, labelled: &Labelled) -> Result<Store, NoMemory>
-    requires { labelled.now.vars ≤ 16777215 }
-    ensures keeps { IfOk result (λ s. Keeps labelled.now (labelled_of s) s.repairs) }
+fn started(alloc: Global, labelled: Labelled) -> Result<Store, NoMemory>
+    requires { labelled.vars ≤ 16777215 }
+    ensures keeps { IfOk result (λ s. Keeps labelled (labelled_of s) s.repairs) }
     ensures inner { IfOk result (λ s. s.inner ≡ 16777215) }
 {
     let vars = labelled.vars;
     prove!(vars <= 16_777_215);
-    match Store::new(alloc, labelled, &limits()) {
+    match Store::new(alloc, &labelled, &limits()) {
         Ok(store) => Ok(store),
         Err(refused) => Err(refused),
     }

@@ -1,4 +1,4 @@
-use Rattle.std.proofs.Common.{◌≡◌, ◌∙◌, ap, sym, inr, arith, ◌∷◌, [], List, ℕ, length}
+use Rattle.std.proofs.Common.{◌∙◌, ap, inr, arith, ◌∷◌, [], List, ℕ}
 use Rattle.maxpre.proofs.Commands.{fifth}
 use Rattle.maxpre.proofs.command.form_chosen.Goals as goal
 

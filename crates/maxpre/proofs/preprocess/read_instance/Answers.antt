@@ -7,8 +7,8 @@ use Rattle.maxpre.specs.Preprocessing.{IsInstanceRefusal}
 use Rattle.maxpre.proofs.Refused.{refused_text}
 use Rattle.maxpre.proofs.preprocess.read_instance.Goals as goal
 
-pub returns-in-Err-clause-refused : goal.returns-in-Err-clause-refused
-returns-in-Err-clause-refused c =
-    let At : Limits → Type 0 = λ m. c.in-Err.error ≢ errors.NoMemory → IsRefused m c.args.text.now c.in-Err.error in
-    let Says : Refusal → Type 0 = IsInstanceRefusal c.args.text.now in
-    subst Says (sym c.refusal_of.ensures) (refused_text c.args.text.now c.in-Err.error (subst At c.limits.ensures c.in-Err.ensures.refused))
+pub returns-clause-refused : goal.returns-clause-refused
+returns-clause-refused c =
+    let At : Limits → Type 0 = λ m. c.in-Err.error ≢ errors.NoMemory → IsRefused m c.args.text c.in-Err.error in
+    let Says : Refusal → Type 0 = IsInstanceRefusal c.args.text in
+    subst Says (sym c.refusal_of.ensures) (refused_text c.args.text c.in-Err.error (subst At c.limits.ensures (rw c.items.ensures at c.in-Err.ensures.refused)))

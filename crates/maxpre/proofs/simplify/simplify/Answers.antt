@@ -1,4 +1,4 @@
-use Rattle.std.proofs.Common.{◌≡◌, ◌∙◌, ap, sym, subst, arith, All, ℕ, List, length}
+use Rattle.std.proofs.Common.{◌∙◌, ap, sym, subst, arith, All, ℕ, List, length}
 use Rattle.mp_logic.specs.Keeping.{State}
 use Rattle.mp_logic.specs.Labelled.{IsProper}
 use Rattle.maxpre.specs.Presenting.{IsPropagated}
@@ -7,7 +7,7 @@ use Rattle.maxpre.proofs.simplify.simplify.Goals as goal
 
 pub loop-letter-preserved : goal.loop-letter-preserved
 loop-letter-preserved c = record {
-  keeps = keeps_more c.args.labelled.now c.loop-letter.store c.run_letter.new.store c.loop-letter.invariant.keeps c.in_ok-run_letter.ensures.keeps;
+  keeps = keeps_more c.args.labelled c.loop-letter.store c.run_letter.new.store c.loop-letter.invariant.keeps c.in_ok-run_letter.ensures.keeps;
   inner = c.in_ok-run_letter.ensures.inner ∙ c.loop-letter.invariant.inner;
   units = units_more c.loop-letter.store c.run_letter.new.store c.args.techniques.now c.loop-letter.letter-index c.loop-letter.invariant.units
       (rw c.as_bytes-letter-items.ensures.value at c.in_ok-run_letter.ensures.units) (rw c.as_bytes-letter-items.ensures.value at c.in_ok-run_letter.ensures.same);

@@ -2,6 +2,8 @@ use crate::status::{Outcome, Status};
 use crate::top::maxpre;
 use crate::words::Words;
 use mp_host::{Desk, Port, QuietDesk};
+use mp_logic::NoMemory;
+use std::alloc::Global;
 use std::test::Fail;
 
 /// A file, the techniques and perhaps the form word, and what a run over them leaves.
@@ -20,8 +22,8 @@ const PLAIN: &str = "--techniques=#";
 
 const UNITS: &str = "--techniques=u";
 
-fn words(rt: &HostRuntime, row: &Row) -> Result<Words, Fail> {
-    let mut words = Words::new(rt.alloc());
+fn words(alloc: Global, row: &Row) -> Result<Words, NoMemory> {
+    let mut words = Words::new(alloc);
     words.push("preprocess")?;
     words.push("F")?;
     words.push(row.techniques)?;
@@ -32,10 +34,27 @@ fn words(rt: &HostRuntime, row: &Row) -> Result<Words, Fail> {
     Ok(words)
 }
 
-fn run(rt: &HostRuntime, row: &Row, desk: &mut Desk) -> Result<Outcome, Fail> {
+fn run(alloc: Global, row: &Row, desk: &mut Desk) -> Result<Outcome, NoMemory> {
+    let words = words(alloc, row)?;
+    Ok(maxpre(alloc, &words, desk))
+}
+
+/// Whether the ports hold these bytes.
+fn holds(desk: &Desk, out: &[u8], map: &[u8], log: &[u8]) -> bool {
+    desk.out() == out && desk.map() == map && desk.log() == log
+}
+
+/// Whether a run over the file leaves what the row says.
+fn is_left(alloc: Global, row: &Row, desk: &mut Desk) -> Result<bool, NoMemory> {
+    let outcome = run(alloc, row, desk)?;
+    Ok(outcome.status == row.status && holds(desk, row.out, row.map, row.log))
+}
+
+/// A desk that holds the file of a row.
+fn desk_of(alloc: Global, row: &Row) -> Result<Desk, NoMemory> {
+    let mut desk = Desk::new(alloc);
     desk.put_file("F", row.text)?;
-    let words = words(rt, row)?;
-    Ok(maxpre(rt.alloc(), &words, desk))
+    Ok(desk)
 }
 
 const CHAIN: Row = Row {
@@ -184,70 +203,90 @@ fn rows(rt: HostRuntime) -> Result<(), Fail> {
             log: b"maxpre: usage: maxpre MODE OPERAND [--NAME=VALUE]\n",
         },
     ];
-    for row in &rows {
-        let mut desk = Desk::new(rt.alloc());
-        let outcome = run(&rt, row, &mut desk)?;
-        assert_eq!(rt; outcome.status, row.status);
-        assert_eq!(rt; desk.out(), row.out);
-        assert_eq!(rt; desk.map(), row.map);
-        assert_eq!(rt; desk.log(), row.log);
+    for (place, row) in rows.iter().enumerate() {
+        let mut desk = desk_of(rt.alloc(), row)?;
+        assert!(rt; is_left(rt.alloc(), row, &mut desk)?, "at {place}");
     }
     Ok(())
 }
 
+/// Whether a run over a desk without the file ends with the read fault.
+fn misses_its_file(alloc: Global) -> Result<bool, NoMemory> {
+    let mut desk = Desk::new(alloc);
+    let outcome = run(alloc, &CHAIN, &mut desk)?;
+    Ok(
+        outcome.status == Status::ReadFault
+            && outcome.faults_seen == 1
+            && desk.log() == b"maxpre: read fault\n".as_slice(),
+    )
+}
+
+/// Whether a port that takes so many bytes leaves these fronts, and nothing is said.
+fn stops(
+    alloc: Global,
+    port: Port,
+    after: u64,
+    map: &'static [u8],
+    out: &'static [u8],
+) -> Result<bool, NoMemory> {
+    let row = Row {
+        status: Status::WriteFault,
+        map,
+        out,
+        ..CHAIN
+    };
+    let mut desk = desk_of(alloc, &row)?;
+    desk.stop_port(port, after);
+    is_left(alloc, &row, &mut desk)
+}
+
+/// How a run ends over a host that never fails.
+fn quiet_end(alloc: Global) -> Result<Status, NoMemory> {
+    let mut quiet = QuietDesk::new(alloc);
+    quiet.put_file("F", CHAIN.text)?;
+    let words = words(alloc, &CHAIN)?;
+    Ok(maxpre(alloc, &words, &mut quiet).status)
+}
+
 #[test]
 fn faults(rt: HostRuntime) -> Result<(), Fail> {
-    // a file that is missing
-    let mut desk = Desk::new(rt.alloc());
-    let words = words(&rt, &CHAIN)?;
-    let outcome = maxpre(rt.alloc(), &words, &mut desk);
-    assert_eq!(rt; outcome.status, Status::ReadFault);
-    assert_eq!(rt; outcome.faults_seen, 1);
-    assert_eq!(rt; desk.log(), b"maxpre: read fault\n".as_slice());
-    // an output that takes four bytes: the map is whole
-    let mut desk = Desk::new(rt.alloc());
-    desk.stop_port(Port::Out, 4);
-    let outcome = run(&rt, &CHAIN, &mut desk)?;
-    assert_eq!(rt; outcome.status, Status::WriteFault);
-    assert_eq!(rt; desk.out(), b"c of".as_slice());
-    assert_eq!(rt; desk.map(), CHAIN.map);
-    assert_eq!(rt; desk.log(), b"".as_slice());
-    // a map that takes none
-    let mut desk = Desk::new(rt.alloc());
-    desk.stop_port(Port::Map, 0);
-    let outcome = run(&rt, &CHAIN, &mut desk)?;
-    assert_eq!(rt; outcome.status, Status::WriteFault);
-    assert_eq!(rt; desk.out(), b"".as_slice());
-    assert_eq!(rt; desk.map(), b"".as_slice());
-    // a host that never fails
-    let mut quiet = QuietDesk::new(rt.alloc());
-    quiet.put_file("F", CHAIN.text)?;
-    let outcome = maxpre(rt.alloc(), &words, &mut quiet);
-    assert_eq!(rt; outcome.status, Status::Ok);
+    assert!(rt; misses_its_file(rt.alloc())?);
+    // the map is whole before any byte goes out
+    assert!(rt; stops(rt.alloc(), Port::Out, 4, CHAIN.map, b"c of")?);
+    assert!(rt; stops(rt.alloc(), Port::Map, 0, b"", b"")?);
+    assert_eq!(rt; quiet_end(rt.alloc())?, Status::Ok);
     Ok(())
+}
+
+/// Whether a run in which one host call fails ends with a fault and fronts of the texts, or is past its last call.
+fn fails_well(alloc: Global, chunk: usize, place: u64) -> Result<Option<bool>, NoMemory> {
+    let mut desk = desk_of(alloc, &CHAIN)?;
+    desk.chunk(chunk.max(1));
+    desk.fail_call(place)?;
+    let outcome = run(alloc, &CHAIN, &mut desk)?;
+    if outcome.status == Status::Ok {
+        return Ok(None);
+    }
+    let is_fault = outcome.status == Status::ReadFault || outcome.status == Status::WriteFault;
+    let are_fronts = CHAIN.map.starts_with(desk.map()) && CHAIN.out.starts_with(desk.out());
+    let in_order = desk.out().is_empty() || desk.map().len() == CHAIN.map.len();
+    Ok(Some(is_fault && outcome.faults_seen == 1 && are_fronts && in_order))
 }
 
 #[test]
 fn each_failing_call(rt: HostRuntime) -> Result<(), Fail> {
     for chunk in [1, 7] {
-        let mut place = 0;
-        let mut ended = false;
-        while !ended && place < 400 {
-            let mut desk = Desk::new(rt.alloc());
-            desk.chunk(chunk);
-            desk.fail_call(place)?;
-            let outcome = run(&rt, &CHAIN, &mut desk)?;
-            ended = outcome.status == Status::Ok;
-            assert!(rt;
-                ended || outcome.status == Status::ReadFault || outcome.status == Status::WriteFault
-            );
-            assert!(rt; ended || outcome.faults_seen == 1);
-            assert!(rt; CHAIN.map.starts_with(desk.map()));
-            assert!(rt; CHAIN.out.starts_with(desk.out()));
-            assert!(rt; desk.out().is_empty() || desk.map().len() == CHAIN.map.len());
-            place += 1;
+        let mut last = 0;
+        for place in 0..400 {
+            match fails_well(rt.alloc(), chunk, place)? {
+                None => {
+                    last = place;
+                    break;
+                }
+                Some(well) => assert!(rt; well, "at {place}"),
+            }
         }
-        assert!(rt; ended && place > 10);
+        assert!(rt; last > 10);
     }
     Ok(())
 }
