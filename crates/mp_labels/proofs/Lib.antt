@@ -1,3 +1,4 @@
+pub mod KeyOrder
 pub mod Lists
 pub mod Marks
 pub mod Numbers

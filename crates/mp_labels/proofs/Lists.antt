@@ -31,6 +31,10 @@ length_map f (x ∷ xs) = ap suc (length_map f xs)
 pub All-from_map : {X Y : Type 0} (P : Y → Type 0) (f : X → Y) (xs : List X) → All P (map f xs) → All (λ x. P (f x)) xs
 All-from_map P f xs h = λ k d l. subst P (get_or-map f xs k d (f d) l) (h k (f d) (omega (arith, length_map f xs)))
 
+pub map_map : {X Y Z : Type 0} (g : Y → Z) (f : X → Y) (xs : List X) → map g (map f xs) ≡ map (λ x. g (f x)) xs
+map_map g f [] = refl
+map_map g f (x ∷ xs) = ap (λ zs. g (f x) ∷ zs) (map_map g f xs)
+
 pub map_agree_at : {X Y : Type 0} (f g : X → Y) (xs : List X) → ((x : X) → Contains xs x → f x ≡ g x) → map f xs ≡ map g xs
 map_agree_at f g [] h = refl
 map_agree_at f g (x ∷ xs) h = ap (λ y. y ∷ map f xs) (h x (Contains-first x xs)) ∙ ap (λ ys. g x ∷ ys) (map_agree_at f g xs (λ y i. h y (Contains-later x xs y i)))

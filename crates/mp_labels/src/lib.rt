@@ -7,6 +7,7 @@
 #![tactic(auto)]
 
 mod charges;
+mod clause_rows;
 mod draft;
 mod label_view;
 mod labelled;

@@ -10,6 +10,7 @@ ghost use Rattle.mp_logic.specs.EndStates.{NoUnits};
 ghost use Rattle.mp_labels.specs.UnitForm.{IsPlainForm, IsUnitForm, Occurs, refuted_form};
 ghost use Rattle.mp_labels.specs.Tables.{HasNumber, by_number, soft_by_number, AreSofts};
 
+use crate::clause_rows::ordered;
 use crate::labelled::Labelled;
 use crate::names::{names_of, numbers_of};
 use crate::written::Written;
@@ -96,9 +97,7 @@ fn renamed(alloc: Global, labelled: &Labelled) -> Result<Written, NoMemory>
 fn unit(alloc: Global, lit: Lit) -> Result<Clause, NoMemory>
     ensures { IfOk result (λ made. made ≡ lit ∷ []) }
 {
-    let mut clause = Clause::new(alloc);
-    clause.push(lit)?;
-    Ok(clause)
+    Ok(Clause::from_vec(vec![in alloc; lit]?))
 }
 
 // The clauses under the numbers of their variables, in the order of clauses.
@@ -107,10 +106,12 @@ fn renumbered(alloc: Global, numbers: &[u32], clauses: &Clauses) -> Result<Claus
     ensures moved { IfOk result (λ made. IsPermutation (map (map (by_number numbers.now)) clauses.now) made) }
     ensures sorted { IfOk result (λ made. IsSorted (slice_cmp lit_cmp) made) }
 {
-    let mut made = Vec::new(alloc);
-    for clause in clauses.items() {
-        made.push(renumbered_clause(alloc, numbers, clause)?)?;
+    let rows = ordered(alloc, clauses)?;
+    let mut made = Vec::with_capacity(alloc, rows.len())?;
+    for row in &rows {
+        made.push(renumbered_clause(alloc, numbers, row.clause)?)?;
     }
+    // Where numbers rise with variables this is one pass: the clauses were made in their order, also in memory.
     made.sort_unstable_by(|a, b| compare_clauses(a, b));
     Ok(Clauses::from_vec(made))
 }
@@ -119,11 +120,11 @@ fn renumbered_clause(alloc: Global, numbers: &[u32], clause: &Clause) -> Result<
     requires { All (HasNumber numbers.now) clause.now }
     ensures { IfOk result (λ made. made ≡ map (by_number numbers.now) clause.now) }
 {
-    let mut made = Clause::new(alloc);
+    let mut made = Vec::with_capacity(alloc, clause.len())?;
     for lit in clause.items() {
         made.push(renumbered_lit(numbers, *lit))?;
     }
-    Ok(made)
+    Ok(Clause::from_vec(made))
 }
 
 fn renumbered_lit(numbers: &[u32], lit: Lit) -> Lit
