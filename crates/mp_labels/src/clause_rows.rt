@@ -4,7 +4,7 @@ ghost use Rattle.std.specs.List.Sorted.{IsPermutation, IsSortedByKey};
 ghost use Rattle.mp_logic.specs.Normal.{lit_cmp};
 ghost use Rattle.mp_labels.specs.Keys.{key_of, key_at};
 
-use mp_logic::{Clause, Clauses, Lit, NoMemory, compare_clauses};
+use mp_logic::{Clauses, Lit, NoMemory};
 use std::alloc::Global;
 use std::cmp::Ordering;
 
@@ -14,7 +14,7 @@ use std::cmp::Ordering;
 pub(crate) struct ClauseRow<'a> {
     first: u64,
     second: u64,
-    pub clause: &'a Clause,
+    pub clause: &'a [Lit],
     ghost first_is: { first ≡ key_at clause.now 0 },
     ghost second_is: { second ≡ key_at clause.now 1 },
 }
@@ -38,17 +38,17 @@ fn rows_of<'a>(alloc: Global, clauses: &'a Clauses) -> Result<Vec<ClauseRow<'a>>
 {
     let mut rows = Vec::with_capacity(alloc, clauses.len())?;
     for clause in clauses.items() {
-        rows.push(row_of(clause))?;
+        rows.push(row_of(clause.items()))?;
     }
     Ok(rows)
 }
 
-fn row_of<'a>(clause: &'a Clause) -> ClauseRow<'a>
+fn row_of<'a>(clause: &'a [Lit]) -> ClauseRow<'a>
     ensures { result.clause.now ≡ clause.now }
 {
     ClauseRow {
-        first: key_at(clause.items(), 0),
-        second: key_at(clause.items(), 1),
+        first: key_at(clause, 0),
+        second: key_at(clause, 1),
         clause,
     }
 }
@@ -77,7 +77,7 @@ fn compare_rows(a: &ClauseRow, b: &ClauseRow) -> Ordering
     ensures { result ≡ slice_cmp lit_cmp a.now.clause.now b.now.clause.now }
 {
     match a.first.cmp(&b.first).then(a.second.cmp(&b.second)) {
-        Ordering::Equal => compare_clauses(a.clause, b.clause),
+        Ordering::Equal => a.clause.cmp(b.clause),
         order => order,
     }
 }

@@ -116,12 +116,12 @@ fn renumbered(alloc: Global, numbers: &[u32], clauses: &Clauses) -> Result<Claus
     Ok(Clauses::from_vec(made))
 }
 
-fn renumbered_clause(alloc: Global, numbers: &[u32], clause: &Clause) -> Result<Clause, NoMemory>
+fn renumbered_clause(alloc: Global, numbers: &[u32], clause: &[Lit]) -> Result<Clause, NoMemory>
     requires { All (HasNumber numbers.now) clause.now }
     ensures { IfOk result (λ made. made ≡ map (by_number numbers.now) clause.now) }
 {
     let mut made = Vec::with_capacity(alloc, clause.len())?;
-    for lit in clause.items() {
+    for lit in clause {
         made.push(renumbered_lit(numbers, *lit))?;
     }
     Ok(Clause::from_vec(made))

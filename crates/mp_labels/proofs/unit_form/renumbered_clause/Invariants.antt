@@ -3,4 +3,4 @@ use Rattle.mp_labels.specs.Tables.{by_number}
 use Rattle.mp_labels.proofs.unit_form.renumbered_clause.Given as goal
 
 abbrev pub invariant-loop-lit : goal.invariant-loop-lit
-invariant-loop-lit l = l.made.items ≡ map (by_number l.numbers) (take l.lit-index l.lit-items)
+invariant-loop-lit l = l.made.items ≡ map (by_number l.numbers) (take l.lit-index l.clause)
