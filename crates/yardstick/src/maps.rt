@@ -1,0 +1,43 @@
+//! A map with many repairs.
+ghost use Rattle.std.specs.Prelude.{◌≡◌, ◌≤◌, ℕ, IfOk, length};
+ghost use Rattle.mp_logic.specs.Labelled.{IsProper};
+ghost use Rattle.mp_map.specs.Maps.{IsMap};
+ghost use Rattle.yardstick.specs.Drawn.{IsDrawn};
+
+use crate::draws::Draws;
+use mp_logic::{Clause, ListOf, NoMemory, Repair};
+use mp_map::MapFile;
+use std::alloc::Global;
+
+/// A valid map with so many drawn repairs, over about a quarter as many variables, of which none is left.
+pub fn drawn_map(alloc: Global, many: u32) -> Result<MapFile, NoMemory>
+    requires { many ≤ 30000000 }
+    ensures valid { IfOk result IsMap }
+    ensures many { IfOk result (λ map. length map.repairs ≡ many) }
+{
+    let third = many / 12 + 1;
+    let mut draws = Draws::new();
+    let mut repairs = ListOf::new(alloc);
+    'draws: while repairs.len() < many as usize {
+        let clause = draws.clause(alloc, third)?;
+        repairs.push(repair_of(alloc, clause)?)?;
+    }
+    Ok(MapFile {
+        original: 3 * third,
+        inner: 3 * third,
+        written: 0,
+        offset: 0,
+        names: ListOf::new(alloc),
+        repairs,
+    })
+}
+
+/// The repair that makes the first literal of a drawn clause true where the clause is false.
+fn repair_of(alloc: Global, clause: Clause) -> Result<Repair, NoMemory>
+    requires { 1 ≤ length clause }
+    ensures { (n : ℕ) → IsDrawn n clause → IfOk result (IsProper n) }
+{
+    let mut sets = ListOf::new(alloc);
+    sets.push(clause.items()[0])?;
+    Ok(Repair { sets, clause })
+}
