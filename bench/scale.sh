@@ -1,28 +1,41 @@
 #!/usr/bin/env bash
-# Prints seconds and peak memory of `preprocess` at sizes that grow tenfold, without and with a chain of units.
+# Prints what `preprocess` costs: a line for each instance and techniques, at sizes that grow tenfold, without and with a
+# chain of units; with names of files also lines for these. `ratio` is to a solver that only reads the hard clauses, where
+# one is installed, and `tenfold` to the line above, whose instance is a tenth as long: bench/scale.sh [FILE..]
 set -eu
-here=$(cd "$(dirname "$0")" && pwd)
-program=$here/../maxpre
+. "$(dirname "$0")/common.sh"
+program=$(built maxpre)
 work=$(mktemp -d)
 trap 'rm -rf "$work"' EXIT
-measure() { # name, words of clauses.py, techniques
-  python3 "$here/clauses.py" $2 >"$work/f.wcnf"
-  python3 - "$program" "$work" "$1" "$3" <<'P'
-import os, resource, subprocess, sys, time
-program, work, name, techniques = sys.argv[1:]
-data = open(work + "/f.wcnf", "rb").read()
-literals = sum(max(0, len(line.split()) - 2) for line in data.splitlines())
-start = time.time()
-with open(work + "/out.wcnf", "wb") as out:
-    status = subprocess.run([program, "preprocess", work + "/f.wcnf", "--techniques=" + techniques, "--mapfile=" + work + "/f.map"], stdout=out).returncode
-used = resource.getrusage(resource.RUSAGE_CHILDREN)
-print(f"{name:28} {literals:10} literals {used.ru_utime + used.ru_stime:8.2f} s {used.ru_maxrss / 1024:8.0f} MB {used.ru_maxrss * 1024 / max(1, literals):6.0f} bytes a literal  status {status}")
-P
+command -v cadical >/dev/null || echo "cadical is not installed: no ratios to a reader"
+printf '%-18s %3s %9s %8s %6s %6s %9s %9s %6s %8s\n' instance run literals seconds MB B/lit clauses left ratio tenfold
+last=
+line() { # name, file, techniques, whether the instance is ten times the last
+  measured "$work/out.wcnf" "$program" preprocess "$2" "--techniques=$3" "--mapfile=$work/f.map"
+  local taken=$seconds used=$peak left
+  sized "$work/out.wcnf"
+  left=$clauses
+  sized "$2" "$work/f.cnf"
+  solver_reads "$work/f.cnf"
+  awk -v name="$1" -v run="$3" -v l="$literals" -v s="$taken" -v k="$used" -v c="$clauses" -v o="$left" -v r="$reader" -v t="${4:+$last}" 'BEGIN {
+    printf "%-18s %3s %9d %8.2f %6.0f %6.0f %9d %9d %6s %8s\n", name, run, l, s, k / 1024, 1024 * k / (l ? l : 1), c, o, r == "" ? "-" : sprintf("%.2f", s / r), t == "" ? "-" : sprintf("%.1f", s / t) }'
+  last=$taken
 }
-"$program" >/dev/null 2>&1 || true
-measure "10^5 clauses, #" 100000 '#'
-measure "10^6 clauses, #" 1000000 '#'
-measure "10^5 clauses, u" 100000 u
-measure "10^6 clauses, u" 1000000 u
-measure "10^5 and 10^4 units, u" "100000 10000" u
-measure "10^6 and 10^5 units, u" "1000000 100000" u
+drawn() { # words of clauses.py
+  python3 "$here/clauses.py" "$@" >"$work/f.wcnf"
+}
+for run in '#' u; do
+  drawn 100000
+  line "10^5 clauses" "$work/f.wcnf" "$run" ''
+  drawn 1000000
+  line "10^6 clauses" "$work/f.wcnf" "$run" tenfold
+done
+drawn 100000 10000
+line "10^5, 10^4 units" "$work/f.wcnf" u ''
+drawn 1000000 100000
+line "10^6, 10^5 units" "$work/f.wcnf" u tenfold
+for file in "$@"; do
+  for run in '#' u; do
+    line "$(basename "$file")" "$file" "$run" ''
+  done
+done

@@ -1,0 +1,46 @@
+# To be sourced by the scripts beside it.
+here=$(cd "$(dirname "${BASH_SOURCE[0]}")" && pwd)
+top=$(dirname "$here")
+
+# Proves and builds a program of the repository where it is missing or older than the code, and prints its file.
+built() { # name of the crate
+  local program=$top/crates/$1/out/$1 log
+  if [ ! -x "$program" ] || [ -n "$(find "$top"/crates/*/src -name '*.rt' -newer "$program" -print -quit)" ]; then
+    echo "$1: proving and building" >&2
+    log=$(mktemp)
+    # without words the program only says its usage
+    (cd "$top/crates/$1" && rt run) >"$log" 2>&1 </dev/null || true
+    if [ ! -x "$program" ]; then
+      cat "$log" >&2
+      rm -f "$log"
+      return 1
+    fi
+    rm -f "$log"
+  fi
+  echo "$program"
+}
+
+# Runs a command three times, its output into a file, and sets `seconds` to the median of the processor's and `peak` to
+# the greatest peak of memory in KB.
+measured() { # output, words
+  local figures
+  figures=$(python3 "$here/measured.py" 3 "$@") || return 1
+  read -r seconds peak <<<"$figures"
+}
+
+# Sets `clauses` and `literals` to the sizes of an instance, and writes its hard clauses for solvers.
+sized() { # instance, file of hard clauses
+  local figures
+  figures=$(python3 "$here/sizes.py" "$@") || return 1
+  read -r clauses literals <<<"$figures"
+}
+
+# Sets `reader` to the seconds of a solver that only reads a file of hard clauses; empty where it is not installed.
+solver_reads() { # file of hard clauses
+  reader=
+  if command -v cadical >/dev/null; then
+    local seconds peak
+    measured /dev/null cadical -n -q -c 0 -d 0 --lucky=0 --plain "$1" || return 1
+    reader=$seconds
+  fi
+}
