@@ -2,10 +2,13 @@
 here=$(cd "$(dirname "${BASH_SOURCE[0]}")" && pwd)
 top=$(dirname "$here")
 
-# Proves and builds a program of the repository where it is missing or older than the code, and prints its file.
+# Proves and builds a program of the repository where it is missing or older than its code, and prints its file.
 built() { # name of the crate
-  local program=$top/crates/$1/out/$1 log
-  if [ ! -x "$program" ] || [ -n "$(find "$top"/crates/*/src -name '*.rt' -newer "$program" -print -quit)" ]; then
+  local program=$top/crates/$1/out/$1 code=() crate log
+  for crate in $1 $(sed -n "s/^$1: //p" "$top/crates.txt"); do
+    [ ! -d "$top/crates/$crate" ] || code+=("$top/crates/$crate/src")
+  done
+  if [ ! -x "$program" ] || [ -n "$(find "${code[@]}" -name '*.rt' -newer "$program" -print -quit)" ]; then
     echo "$1: proving and building" >&2
     log=$(mktemp)
     # without words the program only says its usage

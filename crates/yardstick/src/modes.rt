@@ -66,7 +66,8 @@ fn read_instance(rt: HostRuntime, name: &str) -> Result<(), Trouble> {
 }
 
 fn rewrite(rt: HostRuntime, clauses: u32, turns: u32) -> Result<(), Trouble>
-    requires { clauses ≤ 30000000 }
+    requires few { clauses ≤ 30000000 }
+    requires turns { turns ≤ clauses }
 {
     let tally = rewritten(rt.alloc(), clauses, turns)?;
     println!(rt;

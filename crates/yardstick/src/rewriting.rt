@@ -1,5 +1,5 @@
 //! A store under many small rewrites.
-ghost use Rattle.std.specs.Prelude.{◌≡◌, ◌≤◌, ◌+◌, ◌*◌, ◌++◌, ◌∷◌, [], IfOk, OnOk, All, Some, None, false, true, length, map, slice_set, sum_by};
+ghost use Rattle.std.specs.Prelude.{◌≡◌, ◌<◌, ◌≤◌, ◌+◌, ◌*◌, ◌++◌, ◌∷◌, [], IfOk, OnOk, All, Some, None, false, true, length, map, slice_set, sum_by};
 ghost use Rattle.mp_store.specs.Held.{is_live};
 ghost use Rattle.yardstick.specs.Drawn.{IsDrawn};
 
@@ -20,9 +20,10 @@ pub struct Tally {
 /// A prime, so that its multiples go over all ids of a store, far apart, where it doesn't divide their number.
 const STRIDE: u64 = 2_654_435_761;
 
-/// Makes a store of drawn clauses over about a quarter as many variables, and applies a rewrite at so many of its ids.
+/// Makes a store of drawn clauses over about a quarter as many variables, and applies a rewrite at so many of their ids.
 pub fn rewritten(alloc: Global, clauses: u32, turns: u32) -> Result<Tally, NoMemory>
-    requires { clauses ≤ 30000000 }
+    requires few { clauses ≤ 30000000 }
+    requires turns { turns ≤ clauses }
     ensures { IfOk result (λ tally. tally.applied ≤ turns) }
 {
     let third = clauses / 12 + 1;
@@ -43,9 +44,12 @@ pub fn rewritten(alloc: Global, clauses: u32, turns: u32) -> Result<Tally, NoMem
     })
 }
 
-/// A place among so many; there is one at least.
-fn place_of_turn(turn: u32, many: u32) -> ClauseId {
-    (u64::from(turn) * STRIDE % u64::from(many.max(1))) as usize
+/// A place among so many.
+fn place_of_turn(turn: u32, many: u32) -> ClauseId
+    requires { 1 ≤ many }
+    ensures { result < many }
+{
+    (u64::from(turn) * STRIDE % u64::from(many)) as usize
 }
 
 /// A store of so many drawn clauses, without costs.
