@@ -11,7 +11,8 @@ built() { # name of the crate
   if [ ! -x "$program" ] || [ -n "$(find "${code[@]}" -name '*.rt' -newer "$program" -print -quit)" ]; then
     echo "$1: proving and building" >&2
     log=$(mktemp)
-    # without words the program only says its usage
+    # an older one must not stand for it where a proof fails; without words the program only says its usage
+    rm -f "$program"
     (cd "$top/crates/$1" && rt run) >"$log" 2>&1 </dev/null || true
     if [ ! -x "$program" ]; then
       cat "$log" >&2
@@ -24,11 +25,22 @@ built() { # name of the crate
 }
 
 # Runs a command three times, its output into a file, and sets `seconds` to the median of the processor's and `peak` to
-# the greatest peak of memory in KB.
-measured() { # output, words
+# the greatest peak of memory in KB. With a solver's words the two run in turn, and `reader` is the solver's seconds.
+measured() { # output, words, words of `reading_solver`
   local figures
   figures=$(python3 "$here/measured.py" 3 "$@") || return 1
-  read -r seconds peak <<<"$figures"
+  {
+    read -r seconds peak
+    read -r reader _ || true
+  } <<<"$figures"
+}
+
+# Sets `solver` to the words of a solver that only reads a file of hard clauses; none where it is not installed.
+reading_solver() { # file of hard clauses
+  solver=()
+  if command -v cadical >/dev/null; then
+    solver=(-- /dev/null cadical -n -q -c 0 -d 0 --lucky=0 --plain "$1")
+  fi
 }
 
 # Sets `clauses` and `literals` to the sizes of an instance, and writes its hard clauses for solvers.
@@ -36,14 +48,4 @@ sized() { # instance, file of hard clauses
   local figures
   figures=$(python3 "$here/sizes.py" "$@") || return 1
   read -r clauses literals <<<"$figures"
-}
-
-# Sets `reader` to the seconds of a solver that only reads a file of hard clauses; empty where it is not installed.
-solver_reads() { # file of hard clauses
-  reader=
-  if command -v cadical >/dev/null; then
-    local seconds peak
-    measured /dev/null cadical -n -q -c 0 -d 0 --lucky=0 --plain "$1" || return 1
-    reader=$seconds
-  fi
 }

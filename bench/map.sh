@@ -6,16 +6,10 @@ set -eu
 program=$(built yardstick)
 work=$(mktemp -d)
 trap 'rm -rf "$work"' EXIT
-"$program" map-write 1000000 >"$work/f.map"
-copy=
-line() { # name, output, words
-  local name=$1
-  shift
-  measured "$@"
-  copy=${copy:-$seconds}
-  awk -v name="$name" -v s="$seconds" -v k="$peak" -v c="$copy" 'BEGIN { printf "%-24s %7.2f s %6.0f MB   ratio to the copy %.2f\n", name, s, k / 1024, s / c }'
-}
-line "copied token by token" "$work/said" "$program" map-copy "$work/f.map"
-line "read" "$work/said" "$program" map-read "$work/f.map"
-line "drawn and written" "$work/g.map" "$program" map-write 1000000
-cmp "$work/f.map" "$work/g.map"
+map=$work/f.map
+"$program" map-write 1000000 >"$map"
+python3 "$here/measured.py" 3 "$work/said" "$program" map-copy "$map" -- "$work/said" "$program" map-read "$map" -- "$work/g.map" "$program" map-write 1000000 >"$work/figures"
+cmp "$map" "$work/g.map"
+awk 'BEGIN { split("copied token by token|read|drawn and written", name, "|") }
+  NR == 1 { copy = $1 }
+  { printf "%-24s %7.2f s %6.0f MB   ratio to the copy %.2f\n", name[NR], $1, $2 / 1024, $1 / copy }' "$work/figures"

@@ -1,12 +1,11 @@
 #!/usr/bin/env python3
-"""Runs a command so many times, its output into a file, and prints the median of the processor's seconds and the greatest
-peak of memory in KB: measured.py TIMES OUTPUT WORD.."""
+"""Runs commands in turn, so many times, their outputs into files, and prints for each the median of the processor's
+seconds and the greatest peak of memory in KB: measured.py TIMES OUTPUT WORD.. [-- OUTPUT WORD..].."""
 import os
 import sys
 
-times, output, words = int(sys.argv[1]), sys.argv[2], sys.argv[3:]
-seconds, peak = [], 0
-for _ in range(times):
+
+def run(output, *words):
     child = os.fork()
     if child == 0:
         out = os.open(output, os.O_WRONLY | os.O_CREAT | os.O_TRUNC, 0o644)
@@ -16,6 +15,16 @@ for _ in range(times):
     # 10 and 20 are the answers of a solver
     if os.waitstatus_to_exitcode(status) not in (0, 10, 20):
         sys.exit(f"measured.py: {' '.join(words)}: status {os.waitstatus_to_exitcode(status)}")
-    seconds.append(used.ru_utime + used.ru_stime)
-    peak = max(peak, used.ru_maxrss)
-print(f"{sorted(seconds)[times // 2]:.3f} {peak}")
+    return used.ru_utime + used.ru_stime, used.ru_maxrss
+
+
+times, commands = int(sys.argv[1]), [[]]
+for word in sys.argv[2:]:
+    if word == "--":
+        commands.append([])
+    else:
+        commands[-1].append(word)
+runs = [[run(*command) for command in commands] for _ in range(times)]
+for place in range(len(commands)):
+    seconds = sorted(row[place][0] for row in runs)
+    print(f"{seconds[times // 2]:.3f} {max(row[place][1] for row in runs)}")

@@ -11,15 +11,14 @@ command -v cadical >/dev/null || echo "cadical is not installed: no ratios to a 
 printf '%-18s %3s %9s %8s %6s %6s %9s %9s %6s %8s\n' instance run literals seconds MB B/lit clauses left ratio tenfold
 last=
 line() { # name, file, techniques, whether the instance is ten times the last
-  measured "$work/out.wcnf" "$program" preprocess "$2" "--techniques=$3" "--mapfile=$work/f.map"
-  local taken=$seconds used=$peak left
-  sized "$work/out.wcnf"
-  left=$clauses
+  local left
   sized "$2" "$work/f.cnf"
-  solver_reads "$work/f.cnf"
-  awk -v name="$1" -v run="$3" -v l="$literals" -v s="$taken" -v k="$used" -v c="$clauses" -v o="$left" -v r="$reader" -v t="${4:+$last}" 'BEGIN {
+  reading_solver "$work/f.cnf"
+  measured "$work/out.wcnf" "$program" preprocess "$2" "--techniques=$3" "--mapfile=$work/f.map" "${solver[@]}"
+  left=$(python3 "$here/sizes.py" "$work/out.wcnf")
+  awk -v name="$1" -v run="$3" -v l="$literals" -v s="$seconds" -v k="$peak" -v c="$clauses" -v o="${left% *}" -v r="$reader" -v t="${4:+$last}" 'BEGIN {
     printf "%-18s %3s %9d %8.2f %6.0f %6.0f %9d %9d %6s %8s\n", name, run, l, s, k / 1024, 1024 * k / (l ? l : 1), c, o, r == "" ? "-" : sprintf("%.2f", s / r), t == "" ? "-" : sprintf("%.1f", s / t) }'
-  last=$taken
+  last=$seconds
 }
 drawn() { # words of clauses.py
   python3 "$here/clauses.py" "$@" >"$work/f.wcnf"
