@@ -1,5 +1,5 @@
 //! A store under many small rewrites.
-ghost use Rattle.std.specs.Prelude.{◌≡◌, ◌<◌, ◌≤◌, ◌+◌, ◌*◌, ◌++◌, ◌∷◌, [], IfOk, OnOk, All, Some, None, false, true, length, map, slice_set, sum_by};
+ghost use Rattle.std.specs.Prelude.{◌≡◌, ◌<◌, ◌≤◌, ◌*◌, ◌++◌, IfOk, OnOk, All, Some, None, false, true, map, slice_set};
 ghost use Rattle.mp_store.specs.Held.{is_live};
 ghost use Rattle.yardstick.specs.Drawn.{IsDrawn};
 
