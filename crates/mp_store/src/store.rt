@@ -158,6 +158,13 @@ impl Store {
         self.clauses.live(id)
     }
 
+    /// The id that the next clause gets: how many ids there are so far.
+    pub fn next_id(&self) -> ClauseId
+        ensures { result ≡ length self.now.slots }
+    {
+        self.clauses.ids()
+    }
+
     /// The lowest live id that is at least `least`; `fits` lets a walk go on from the next one.
     pub fn next_live(&self, least: ClauseId) -> Option<ClauseId>
         ensures lowest { MatchOption result ((id : ℕ) → least ≤ id → is_live self.now.slots id ≡ false) (λ found. IsNextLive self.now.slots least found) }

@@ -1,6 +1,6 @@
 -- What fixing the literal of a unit clause does to a store.
 use Rattle.std.proofs.Common.{◌≡◌, ◌≢◌, ◌⊎◌, ℕ, ◌+◌, ◌<◌, ◌≤◌, Bool, true, false, not, cond, List, [], ◌∷◌, ◌++◌, length, get_or, set, zero, suc, refl, sym, ◌∙◌, ap, subst, arith, sum_by, sum, inl, inr, Contains, All, add-zero}
-use Rattle.std.specs.Prelude.{Option, Some, None, is_some, ◌==◌, ◌||◌, ◌&&◌, map}
+use Rattle.std.specs.Prelude.{Option, Some, None, ◌==◌, ◌||◌, ◌&&◌, map}
 use Rattle.std.specs.List.{list_any, list_all, count_by}
 use Rattle.std.proofs.lemmas.Bool.{cases_lt, cases_eq, cases_Bool, eqb-true, eq-eqb, or_cases, or_left, and_parts, true≢false, false≢true}
 use Rattle.std.proofs.Math.ListN.{length-set}
@@ -19,10 +19,10 @@ use Rattle.mp_logic.proofs.Literals.{same_or_negation}
 use Rattle.mp_logic.proofs.Fixed.{Bends-implied}
 use Rattle.mp_store.specs.declared.rewrite.Rewrite.{Rewrite}
 use Rattle.mp_store.specs.Places.{place_of, literal_at, is_in, has}
-use Rattle.mp_store.specs.Held.{Held, clause_of, is_live, live_clauses, has_empty, costs_of, weight_in, labelled_of}
+use Rattle.mp_store.specs.Held.{Held, clause_of, live_clauses, has_empty, costs_of, weight_in, labelled_of}
 use Rattle.mp_store.specs.Rewriting.{cleared, weighted, changed_by, refuted_by, after}
 use Rattle.mp_store.specs.Soundness.{IsStore}
-use Rattle.mp_store.specs.Occurrences.{ids_where, IsNextLive}
+use Rattle.mp_store.specs.Occurrences.{ids_where}
 use Rattle.mp_store.specs.Fixing.{meets, clashes, without, slot_touched, touched_by, left_of, shortened, paid_off_one, paid_off, fixing_of}
 use Rattle.mp_store.specs.Measures.{occurs, occurring, is_covered, uncovered, IsLower, IsSmaller}
 use Rattle.mp_store.specs.Techniques.{IsRun, IsAnswer}
@@ -387,18 +387,14 @@ no-units h s u n = All-from_contained (λ c. 2 ≤ length c) (live_clauses h.slo
     two-long c full (λ l e. n w.0 l (w.1 ∙ ap (λ x. Some x) e)))
 
 -- looking at one id more
-pub found-more : (slots : List (Option (List Literal))) (next id : ℕ) (old new : List ℕ) → AreWaiting slots next old → IsNextLive slots next id → IsNoUnit (clause_of slots id) ⊎ Contains new id → Among old new → AreWaiting slots (id + 1) new
-found-more slots next id old new w n own rest x l b e =
-    elim (cases_lt x next) [
+pub found-more : (slots : List (Option (List Literal))) (id : ℕ) (old new : List ℕ) → AreWaiting slots id old → IsNoUnit (clause_of slots id) ⊎ Contains new id → Among old new → AreWaiting slots (id + 1) new
+found-more slots id old new w own rest x l b e =
+    elim (cases_lt x id) [
       | inl a ↦ rest x (w x l a e)
-      | inr a ↦ elim (cases_eq x id) [
-        | inl f ↦ elim own [ inl o ↦ absurd (o l (subst (λ k. clause_of slots k ≡ Some (l ∷ [])) f e)) | inr i ↦ subst (Contains new) (sym f) i ]
-        | inr o ↦ absurd (false≢true (sym (n.lowest x a (omega arith)) ∙ ap is_some e))
-      ]
+      | inr a ↦
+          let same : x ≡ id = omega arith in
+          elim own [ inl o ↦ absurd (o l (subst (λ k. clause_of slots k ≡ Some (l ∷ [])) same e)) | inr i ↦ subst (Contains new) (sym same) i ]
     ]
-
-pub found-all : (slots : List (Option (List Literal))) (next : ℕ) (waiting : List ℕ) → AreWaiting slots next waiting → ((id : ℕ) → next ≤ id → is_live slots id ≡ false) → AreAllWaiting slots waiting
-found-all slots next waiting w n x l e = elim (cases_lt x next) [ inl a ↦ w x l a e | inr a ↦ absurd (false≢true (sym (n x a) ∙ ap is_some e)) ]
 
 -- taking one id out
 pub taken-unit : (slots : List (Option (List Literal))) (id : ℕ) (l : Literal) (old new : List ℕ) → AreAllWaiting slots old → ((x : ℕ) → Contains old x → (x ≡ id) ⊎ Contains new x) → clause_of slots id ≡ Some (l ∷ []) → Contains (live_clauses slots) (l ∷ []) × OthersAreWaiting l slots new

@@ -82,10 +82,9 @@ impl UnitQueue {
         ensures all { OnOk result (AreAllWaiting store.now.slots self.new) }
         ensures seen { IfOk result (λ next. next ≤ length store.now.slots) }
     {
-        let mut next = seen;
-        'find: while let Some(id) = store.next_live(next) {
+        let next = store.next_id();
+        for id in seen..next {
             self.note(store, id)?;
-            next = id + 1;
         }
         Ok(next)
     }

@@ -1,16 +1,9 @@
 use Rattle.std.proofs.Common.{arith}
-use Rattle.mp_store.proofs.Sound.{live-below}
-use Rattle.t_units.proofs.Stepped.{found-more, found-all}
+use Rattle.t_units.proofs.Stepped.{found-more}
 use Rattle.t_units.proofs.waiting.UnitQueue.find.Goals as goal
 
-pub find-preserved : goal.find-preserved
-find-preserved c =
-    let lowest = c.in-Some.ensures.lowest in
-    let below = live-below c.args.store.now.slots c.in-Some.id lowest.live in
-    record {
-      waiting = found-more c.args.store.now.slots c.find.next c.in-Some.id c.find.self c.note.new.self c.find.invariant.waiting lowest c.in_ok-note.ensures.own c.in_ok-note.ensures.rest;
-      within = omega (arith, below);
-    }
-
-pub returns-clause-all : goal.returns-clause-all
-returns-clause-all c = found-all c.args.store.now.slots c.find.next c.find.self c.find.invariant.waiting c.in_default.ensures.lowest
+pub loop-id-preserved : goal.loop-id-preserved
+loop-id-preserved c = record {
+  waiting = found-more c.args.store.now.slots c.loop-id.id c.loop-id.self c.note.new.self c.loop-id.invariant.waiting c.in_ok-note.ensures.own c.in_ok-note.ensures.rest;
+  within = omega (arith, c.loop-id-test.true, c.next_id-next.ensures);
+}
