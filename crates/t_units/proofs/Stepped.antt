@@ -1,5 +1,5 @@
 -- What fixing the literal of a unit clause does to a store.
-use Rattle.std.proofs.Common.{◌≡◌, ◌≢◌, ◌⊎◌, ℕ, ◌+◌, ◌<◌, ◌≤◌, Bool, true, false, not, cond, List, [], ◌∷◌, ◌++◌, length, get_or, set, zero, suc, refl, sym, ◌∙◌, ap, subst, arith, sum_by, sum, inl, inr, Contains, All, add-zero}
+use Rattle.std.proofs.Common.{◌≡◌, ◌≢◌, ◌⊎◌, ℕ, ◌+◌, ◌-◌, ◌<◌, ◌≤◌, Bool, true, false, not, cond, List, [], ◌∷◌, ◌++◌, length, get_or, set, zero, suc, refl, sym, ◌∙◌, ap, subst, arith, sum_by, sum, inl, inr, Contains, All, add-zero}
 use Rattle.std.specs.Prelude.{Option, Some, None, ◌==◌, ◌||◌, ◌&&◌, map}
 use Rattle.std.specs.List.{list_any, list_all, count_by}
 use Rattle.std.proofs.lemmas.Bool.{cases_lt, cases_eq, cases_Bool, eqb-true, eq-eqb, or_cases, or_left, and_parts, true≢false, false≢true}
@@ -35,7 +35,7 @@ use Rattle.mp_store.proofs.Found.{any-by, any-found, ids_where-at}
 use Rattle.mp_store.proofs.Fixes.{sum-set-zero, weighted-zeros, weights-fixed, paid-from, untouched-left, shortened-from, filter-from}
 use Rattle.mp_store.proofs.KeptFixing.{live-id, live-at, cleared-out, cleared-other, negated-one, meets-one, one-meets, new-slots, fixed-weights, table-fixed, untouched-live, store-fixed, fixing_keeps_store}
 use Rattle.t_units.specs.Units.{LeavesVariables, unit_propagation}
-use Rattle.t_units.specs.Waiting.{AreWaiting, AreAllWaiting, OthersAreWaiting, IsNoUnit, HasNoUnit}
+use Rattle.t_units.specs.Waiting.{AreWaiting, AreAllWaiting, OthersAreWaiting, IsNoUnit, HasNoUnit, ArePaid}
 
 -- the literal of a unit clause is one of the store's variables
 pub unit-within : (h : Held) (l : Literal) → IsStore h → Contains (live_clauses h.slots) (l ∷ []) → IsUpTo h.vars l
@@ -462,3 +462,24 @@ units-done budget left h t changed b s n = record {
   same = b.same;
   smaller = λ e. inr (b.smaller e);
 }
+
+-- the budget
+step-repairs : (h : Held) (l : Literal) → length (after (fixing_of (l ∷ []) h) h).repairs ≡ length h.repairs + 1
+step-repairs h l =
+    let r = fixing_of (l ∷ []) h in
+    let more = length-append h.repairs (set_repair l (l ∷ []) ∷ []) in
+    let parts : (b : Bool) → length (cond b (refuted_by r h) (changed_by r h)).repairs ≡ length h.repairs + 1 =
+    λ (t : Bool). elim t as (λ b. length (cond b (refuted_by r h) (changed_by r h)).repairs ≡ length h.repairs + 1) [ true ↦ more | false ↦ more ] in
+    parts (has_empty r.added)
+
+pub paid-none : (budget : Option ℕ) (h : Held) → ArePaid budget budget h h
+paid-none None h = refl
+paid-none (Some b) h = (b, refl, omega arith)
+
+pub paid-more : (budget left left2 : Option ℕ) (h t u : Held) (l : Literal) → ArePaid budget left h t → Spends left left2 true → u ≡ after (fixing_of (l ∷ []) t) t → ArePaid budget left2 h u
+paid-more None left left2 h t u l p s e = s None 0 p
+paid-more (Some b) left left2 h t u l p s e =
+    let none : p.0 ≡ p.0 - 0 = omega arith in
+    let spent = s (Some p.0) 0 (p.1 ∙ ap (λ (n : ℕ). Some n) none, omega arith) in
+    let one : length u.repairs ≡ length t.repairs + 1 = ap (λ (x : Held). length x.repairs) e ∙ step-repairs t l in
+    (p.0 - 1, spent.0, omega (arith, one, spent.1, p.2))

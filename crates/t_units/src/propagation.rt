@@ -4,7 +4,7 @@
 //!
 //! A turn costs what its literal's two occurrence lists hold. Unit clauses wait by id, and each id is looked at once, so
 //! that no turn walks over all clauses.
-ghost use Rattle.std.specs.Prelude.{◌≡◌, [], ◌∷◌, IfOk, OnOk, OnErr, Contains, false};
+ghost use Rattle.std.specs.Prelude.{◌≡◌, ◌≤◌, ◌+◌, [], ◌∷◌, IfOk, IfSome, OnOk, OnErr, Contains, false, length};
 ghost use Rattle.mp_store.specs.Held.{live_clauses};
 ghost use Rattle.mp_store.specs.Fixing.{fixing_of};
 ghost use Rattle.mp_store.specs.Rewriting.{after};
@@ -18,10 +18,12 @@ use std::alloc::Global;
 
 /// Fixes unit clauses, that of lowest id first, until none is left. Each is a turn, and so is finding that none is left:
 /// then, and where a clause becomes empty, the answer is Finished, and Spent where the budget of turns is used up before.
+/// Each turn that fixes a literal puts one repair last, so `turns` says that there are no more of them than the budget has.
 pub fn units(alloc: Global, store: &mut Store, budget: Option<u64>) -> Result<Ran, NoMemory>
     requires { store.old.refuted ≡ false }
     ensures run { IsRun unit_propagation store.old store.new }
     ensures answer { IfOk result (λ r. IsAnswer unit_propagation budget store.old store.new r) }
+    ensures turns { IfSome budget (λ b. length store.new.repairs ≤ length store.old.repairs + b) }
 {
     let mut queue = UnitQueue::new(alloc);
     let mut seen = 0;

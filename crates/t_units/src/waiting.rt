@@ -80,7 +80,7 @@ impl UnitQueue {
         requires waiting { AreWaiting store.now.slots seen self.old }
         requires seen { seen ≤ length store.now.slots }
         ensures all { OnOk result (AreAllWaiting store.now.slots self.new) }
-        ensures seen { IfOk result (λ next. next ≤ length store.now.slots) }
+        ensures seen { IfOk result (λ next. next ≡ length store.now.slots) }
     {
         let next = store.next_id();
         for id in seen..next {
