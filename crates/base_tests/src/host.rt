@@ -1,40 +1,66 @@
 use mp_host::{
     Desk, Host, Port, QuietDesk, ReadAllError, RealHost, WriteFault, read_all, write_all,
 };
+use mp_logic::NoMemory;
+use std::alloc::Global;
 use std::fs;
 use std::test::Fail;
 
+/// A desk with two files, which moves so many bytes at a time and fails one call.
+fn desk(alloc: Global, chunk: usize, failing: u64) -> Result<Desk, NoMemory> {
+    let mut desk = Desk::new(alloc);
+    desk.put_file("F", b"other")?;
+    desk.put_file("F", b"hello")?;
+    desk.put_file("G", b"more")?;
+    desk.chunk(chunk.max(1));
+    desk.fail_call(failing)?;
+    Ok(desk)
+}
+
+/// Whether a file is read as `hello`, or with the error that is wanted.
+fn is_read(
+    alloc: Global,
+    desk: &mut Desk,
+    name: &str,
+    limit: u64,
+    want: Option<ReadAllError>,
+) -> bool {
+    match read_all(alloc, desk, name, limit) {
+        Ok(bytes) => want.is_none() && bytes.items() == b"hello".as_slice(),
+        Err(error) => want == Some(error),
+    }
+}
+
 #[test]
 fn reads_up_to_the_limit(rt: HostRuntime) -> Result<(), Fail> {
-    // the size of a chunk, the host call that fails, the limit, and the error that is wanted
+    // the file, the size of a chunk, the host call that fails, the limit, and the error that is wanted
     let rows = [
-        (7, 9, 5, None),
-        (2, 9, 5, None),
-        (1, 9, 5, None),
-        (2, 9, 4, Some(ReadAllError::TooLong { read: 5 })),
-        (7, 9, 0, Some(ReadAllError::TooLong { read: 1 })),
-        (2, 0, 5, Some(ReadAllError::ReadFault)),
-        (2, 2, 5, Some(ReadAllError::ReadFault)),
+        ("F", 7, 9, 5, None),
+        ("F", 2, 9, 5, None),
+        ("F", 1, 9, 5, None),
+        ("F", 2, 9, 4, Some(ReadAllError::TooLong { read: 5 })),
+        ("F", 7, 9, 0, Some(ReadAllError::TooLong { read: 1 })),
+        ("F", 2, 0, 5, Some(ReadAllError::ReadFault)),
+        ("F", 2, 2, 5, Some(ReadAllError::ReadFault)),
+        ("H", 7, 9, 5, Some(ReadAllError::ReadFault)),
     ];
-    for (place, (chunk, failing, limit, want)) in rows.iter().enumerate() {
-        let mut desk = Desk::new(rt.alloc());
-        desk.put_file("F", b"other")?;
-        desk.put_file("F", b"hello")?;
-        desk.put_file("G", b"more")?;
-        desk.chunk(*chunk);
-        desk.fail_call(*failing)?;
-        match read_all(rt.alloc(), &mut desk, "F", *limit) {
-            Ok(bytes) => {
-                assert_eq!(rt; bytes.items(), b"hello".as_slice(), "at {place}");
-                assert_eq!(rt; *want, None, "at {place}");
-            }
-            Err(error) => assert_eq!(rt; *want, Some(error), "at {place}"),
-        }
+    for (place, (name, chunk, failing, limit, want)) in rows.iter().enumerate() {
+        let mut desk = desk(rt.alloc(), *chunk, *failing)?;
+        assert!(rt;
+            is_read(rt.alloc(), &mut desk, name, *limit, *want),
+            "at {place}"
+        );
     }
-    let mut desk = Desk::new(rt.alloc());
-    let missing = read_all(rt.alloc(), &mut desk, "F", 5);
-    assert!(rt; missing.is_err());
     Ok(())
+}
+
+/// Whether just these first bytes of `hello` go out.
+fn is_out(desk: &mut Desk, want: &[u8]) -> bool {
+    let written = match write_all(desk, Port::Out, b"hello") {
+        Ok(()) => 5,
+        Err(WriteFault { written }) => written,
+    };
+    written == want.len() && desk.out() == want && desk.log().is_empty()
 }
 
 #[test]
@@ -48,33 +74,28 @@ fn writes_up_to_a_stop(rt: HostRuntime) -> Result<(), Fail> {
         (2, 9, 1, b"he"),
     ];
     for (chunk, stop, failing, want) in rows {
-        let mut desk = Desk::new(rt.alloc());
-        desk.chunk(chunk);
+        let mut desk = desk(rt.alloc(), chunk, failing)?;
         desk.stop_port(Port::Out, stop);
-        desk.fail_call(failing)?;
-        match write_all(&mut desk, Port::Out, b"hello") {
-            Ok(()) => assert_eq!(rt; want.len(), 5),
-            Err(fault) => assert_eq!(rt;
-                fault,
-                WriteFault {
-                    written: want.len()
-                }
-            ),
-        }
-        assert_eq!(rt; desk.out(), want);
-        assert_eq!(rt; desk.log(), b"".as_slice());
+        assert!(rt; is_out(&mut desk, want), "{chunk} and {stop}");
     }
     Ok(())
+}
+
+/// Whether a map is made that holds just these bytes, which go to Log too.
+fn is_mapped(desk: &mut Desk, text: &[u8]) -> bool {
+    if desk.create_map("M").is_err() {
+        return false;
+    }
+    let map = write_all(desk, Port::Map, text);
+    let log = write_all(desk, Port::Log, text);
+    map.is_ok() && log.is_ok() && desk.map() == text
 }
 
 #[test]
 fn makes_the_map_anew(rt: HostRuntime) -> Result<(), Fail> {
     let mut desk = Desk::new(rt.alloc());
     for text in [b"one".as_slice(), b"two".as_slice()] {
-        assert!(rt; desk.create_map("M").is_ok());
-        assert!(rt; write_all(&mut desk, Port::Map, text).is_ok());
-        assert!(rt; write_all(&mut desk, Port::Log, text).is_ok());
-        assert_eq!(rt; desk.map(), text);
+        assert!(rt; is_mapped(&mut desk, text));
     }
     assert_eq!(rt; desk.log(), b"onetwo".as_slice());
     Ok(())

@@ -1,35 +1,34 @@
 //! The label view and the written form: texts of instances, and the texts that are written of them without techniques.
 
-use mp_labels::{label, unlabel};
-use mp_logic::{Copied, Limits, Names};
-use mp_text::Bytes;
-use mp_wcnf::{Form, read, write};
+use crate::instances::instance;
+use mp_labels::{LabelError, Labelled, label, unlabel};
+use mp_logic::{Copied, Limits, NoMemory};
+use mp_wcnf::{Form, ReadError, write};
 use std::alloc::Global;
 use std::test::Fail;
 
-/// What became of a text.
-#[derive(Drop)]
-enum Shown {
-    Written(Bytes, Names),
-    TooManyVariables,
-    NotRead,
-}
-
-// The text and the names that are written of the instance of a text.
-fn rewritten(alloc: Global, text: &[u8], inner: u32) -> Result<Shown, Fail> {
+/// The label view of a text, for no more than so many variables.
+fn view_of(
+    alloc: Global,
+    text: &[u8],
+    inner: u32,
+) -> Result<Result<Labelled, LabelError>, ReadError> {
+    let instance = instance(alloc, text)?;
     let mut limits = Limits::program();
     limits.inner = inner;
-    match read(alloc, text, &limits) {
-        Ok(instance) => match label(alloc, &instance, &limits) {
-            Ok(view) => {
-                let written = unlabel(alloc, &view.copy(alloc)?)?;
-                let text = write(alloc, &written.instance, Form::H, written.offset)?;
-                Ok(Shown::Written(text, written.names))
-            }
-            Err(_) => Ok(Shown::TooManyVariables),
-        },
-        Err(_) => Ok(Shown::NotRead),
-    }
+    Ok(label(alloc, &instance, &limits))
+}
+
+/// Whether this text with these names is written of a labelled state.
+fn is_written(
+    alloc: Global,
+    view: &Labelled,
+    want: &[u8],
+    names: &[u32],
+) -> Result<bool, NoMemory> {
+    let written = unlabel(alloc, &view.copy(alloc)?)?;
+    let text = write(alloc, &written.instance, Form::H, written.offset)?;
+    Ok(text.items() == want && written.names.items() == names)
 }
 
 // One soft clause of each kind: a repeated unit, a tautology, one without weight, two long ones, an opposite unit and
@@ -39,12 +38,8 @@ const EACH_KIND: &[u8] =
 
 #[test]
 fn instances_written_anew(rt: HostRuntime) -> Result<(), Fail> {
-    let rows = [
-        (
-            b"h 0".as_slice(),
-            b"c offset 0\nh 1 0\nh -1 0\n".as_slice(),
-            [1].as_slice(),
-        ),
+    let rows: [(&[u8], &[u8], &[u32]); 6] = [
+        (b"h 0", b"c offset 0\nh 1 0\nh -1 0\n", &[1]),
         (b"5 1 0 3 -1 0", b"c offset 3\n2 1 0\n", &[1]),
         (b"4 0", b"c offset 4\n", &[]),
         (b"h 1000 0", b"c offset 0\nh 1 0\n", &[1000]),
@@ -56,24 +51,24 @@ fn instances_written_anew(rt: HostRuntime) -> Result<(), Fail> {
         ),
     ];
     for (text, want, names) in rows {
-        let done = rewritten(rt.alloc(), text, 16_777_215)?;
-        assert!(rt; is_written(&done, want, names));
+        match view_of(rt.alloc(), text, 16_777_215)? {
+            Ok(view) => assert!(rt; is_written(rt.alloc(), &view, want, names)?),
+            Err(error) => assert!(rt; false, "{error}"),
+        }
     }
     Ok(())
-}
-
-fn is_written(done: &Shown, want: &[u8], names: &[u32]) -> bool {
-    match done {
-        Shown::Written(text, of) => text.items() == want && of.items() == names,
-        _ => false,
-    }
 }
 
 #[test]
 fn limit_of_labels(rt: HostRuntime) -> Result<(), Fail> {
     for (inner, fits) in [(1, false), (2, false), (3, true)] {
-        let done = rewritten(rt.alloc(), b"3 1 2 0", inner)?;
-        assert_eq!(rt; matches!(done, Shown::TooManyVariables), !fits);
+        match view_of(rt.alloc(), b"3 1 2 0", inner)? {
+            Ok(_) => assert!(rt; fits),
+            Err(error) => {
+                assert!(rt; !fits);
+                assert_eq!(rt; error, LabelError::TooManyVariables);
+            }
+        }
     }
     Ok(())
 }

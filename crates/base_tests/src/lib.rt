@@ -5,6 +5,8 @@
 #[cfg(test)]
 mod host;
 #[cfg(test)]
+mod instances;
+#[cfg(test)]
 mod labels;
 #[cfg(test)]
 mod logic;

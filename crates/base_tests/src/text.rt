@@ -1,7 +1,18 @@
 use mp_text::{
-    Bytes, Cursor, LitToken, TextBuf, literal, natural, numbers_are_read_again, tokens_are_slices,
+    Bytes, Cursor, LitToken, TextBuf, Token, literal, natural, numbers_are_read_again,
+    tokens_are_slices,
 };
 use std::test::Fail;
+
+/// Whether it is a token of this text, at this start and on this line, and whether it leads.
+fn is_token(token: Option<Token>, text: &[u8], start: usize, line: u64, leads: bool) -> bool {
+    match token {
+        Some(token) => {
+            token.text == text && token.start == start && token.line == line && token.leads == leads
+        }
+        None => false,
+    }
+}
 
 #[test]
 fn goes_over_the_tokens(rt: HostRuntime) {
@@ -20,17 +31,9 @@ fn goes_over_the_tokens(rt: HostRuntime) {
     for comments in [false, true] {
         let mut cursor = Cursor::new(text, comments);
         for (word, start, line, leads, hidden) in rows {
-            if comments && hidden {
-                continue;
-            }
-            match cursor.next_token() {
-                Some(token) => {
-                    assert_eq!(rt; token.text, word, "at {start}");
-                    assert_eq!(rt; token.start, start);
-                    assert_eq!(rt; token.line, line, "at {start}");
-                    assert_eq!(rt; token.leads, leads, "at {start}");
-                }
-                None => assert!(rt; false, "no token at {start}"),
+            if !comments || !hidden {
+                let token = cursor.next_token();
+                assert!(rt; is_token(token, word, start, line, leads), "at {start}");
             }
         }
         assert!(rt; cursor.next_token().is_none());

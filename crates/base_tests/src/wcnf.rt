@@ -1,3 +1,4 @@
+use crate::instances::instance;
 use mp_logic::{Limits, NoMemory};
 use mp_text::Bytes;
 use mp_wcnf::{Form, ReadError, one_meaning, read, write};
@@ -6,7 +7,7 @@ use std::test::Fail;
 
 /// What is written of a text that was read within the limits of the program.
 fn rewritten(alloc: Global, text: &[u8], form: Form) -> Result<Bytes, ReadError> {
-    let instance = read(alloc, text, &Limits::program())?;
+    let instance = instance(alloc, text)?;
     Ok(write(alloc, &instance, form, 0)?)
 }
 
@@ -74,114 +75,109 @@ fn reads_and_writes(rt: HostRuntime) -> Result<(), Fail> {
     Ok(())
 }
 
-/// The program's limits, but for clauses, literals and the sum of weights.
-fn few(clauses: u64, literals: u64, weight: u64) -> Limits {
-    Limits {
-        clauses,
-        literals,
-        weight,
-        ..Limits::program()
+/// Why a text is refused.
+fn fault_of(alloc: Global, text: &[u8], limits: &Limits) -> Option<ReadError> {
+    match read(alloc, text, limits) {
+        Ok(_) => None,
+        Err(error) => Some(error),
     }
 }
 
 #[test]
 fn refuses_the_first_fault(rt: HostRuntime) {
-    let all = Limits::program();
-    let rows: [(&[u8], Limits, ReadError); 36] = [
-        (b"3 1 0\nh 1 2\n", all, ReadError::Syntax { line: 2 }),
-        (b"h 1\n\n\n", all, ReadError::Syntax { line: 3 }),
-        (b"h -0 1 0\n", all, ReadError::Syntax { line: 1 }),
-        (b"c\nh 1 x 0", all, ReadError::Syntax { line: 2 }),
-        (b"h 1 0\n%\n", all, ReadError::Syntax { line: 2 }),
-        (b"h 1 0\np wcnf 1 1 5\n", all, ReadError::Syntax { line: 2 }),
-        (b"p cnf 1 1\n1 0\n", all, ReadError::Syntax { line: 1 }),
-        (b"p\n", all, ReadError::Syntax { line: 1 }),
-        (b"\nc\np wcnf\n\n\n", all, ReadError::Syntax { line: 3 }),
-        (b"\n\np wcnf 1\n1 1 0\n", all, ReadError::Syntax { line: 3 }),
-        (b"p wcnf x 1\n", all, ReadError::Syntax { line: 1 }),
-        (b"p wcnf 1 x\n", all, ReadError::Syntax { line: 1 }),
-        (b"p wcnf 1 1 x\n", all, ReadError::Syntax { line: 1 }),
-        (b"p wcnf 1 1 2 3\n", all, ReadError::Syntax { line: 1 }),
-        (b"p wcnf 1 1 2\nh 1 0\n", all, ReadError::Syntax { line: 2 }),
-        (b"p wcnf 1 1 2 1\n", all, ReadError::Syntax { line: 1 }),
+    let limits = Limits::program();
+    let rows: [(&[u8], ReadError); 25] = [
+        (b"3 1 0\nh 1 2\n", ReadError::Syntax { line: 2 }),
+        (b"h 1\n\n\n", ReadError::Syntax { line: 3 }),
+        (b"h -0 1 0\n", ReadError::Syntax { line: 1 }),
+        (b"c\nh 1 x 0", ReadError::Syntax { line: 2 }),
+        (b"h 1 0\n%\n", ReadError::Syntax { line: 2 }),
+        (b"h 1 0\np wcnf 1 1 5\n", ReadError::Syntax { line: 2 }),
+        (b"p cnf 1 1\n1 0\n", ReadError::Syntax { line: 1 }),
+        (b"p\n", ReadError::Syntax { line: 1 }),
+        (b"\nc\np wcnf\n\n\n", ReadError::Syntax { line: 3 }),
+        (b"\n\np wcnf 1\n1 1 0\n", ReadError::Syntax { line: 3 }),
+        (b"p wcnf x 1\n", ReadError::Syntax { line: 1 }),
+        (b"p wcnf 1 x\n", ReadError::Syntax { line: 1 }),
+        (b"p wcnf 1 1 x\n", ReadError::Syntax { line: 1 }),
+        (b"p wcnf 1 1 2 3\n", ReadError::Syntax { line: 1 }),
+        (b"p wcnf 1 1 2\nh 1 0\n", ReadError::Syntax { line: 2 }),
+        (b"p wcnf 1 1 2 1\n", ReadError::Syntax { line: 1 }),
         (
             b"p wcnf 340282366920938463463374607431768211456 1\n",
-            all,
             ReadError::Syntax { line: 1 },
         ),
         (
             b"340282366920938463463374607431768211456 1 0\n",
-            all,
             ReadError::Syntax { line: 1 },
         ),
         (
             b"340282366920938463463374607431768211455 1 0\n",
-            all,
             ReadError::TooHeavy { line: 1 },
         ),
         (
             b"9223372036854775807 1 0\n1 2 0\n",
-            all,
             ReadError::TooHeavy { line: 2 },
         ),
-        (
-            b"h 8388608 0\n",
-            all,
-            ReadError::TooManyVariables { line: 1 },
-        ),
-        (
-            b"h\n-8388608 x",
-            all,
-            ReadError::TooManyVariables { line: 2 },
-        ),
+        (b"h 8388608 0\n", ReadError::TooManyVariables { line: 1 }),
+        (b"h\n-8388608 x", ReadError::TooManyVariables { line: 2 }),
         (
             b"p wcnf 8388608 0\n",
-            all,
             ReadError::TooManyVariables { line: 1 },
         ),
-        (
-            b"p wcnf 8388608\n",
-            all,
-            ReadError::TooManyVariables { line: 1 },
-        ),
+        (b"p wcnf 8388608\n", ReadError::TooManyVariables { line: 1 }),
         (
             b"p wcnf 340282366920938463463374607431768211455",
-            all,
             ReadError::TooManyVariables { line: 1 },
         ),
-        (b"h 1 0\nh 1 0\n", few(1, 9, 9), ReadError::TooManyClauses),
-        (b"h 1 0\nx", few(1, 9, 9), ReadError::Syntax { line: 2 }),
-        (b"h 1 0\n10 1 0\n", few(1, 9, 9), ReadError::TooManyClauses),
-        (b"0", few(0, 9, 9), ReadError::TooManyClauses),
-        (b"h 1 2 0\n", few(9, 1, 9), ReadError::TooManyLiterals),
-        (
-            b"h 1 0 h 0 2 2 0\n",
-            few(9, 1, 9),
-            ReadError::TooManyLiterals,
-        ),
+    ];
+    for (place, (text, want)) in rows.iter().enumerate() {
+        assert_eq!(rt;
+            fault_of(rt.alloc(), text, &limits),
+            Some(*want),
+            "at {place}"
+        );
+    }
+}
+
+#[test]
+fn refuses_what_passes_a_limit(rt: HostRuntime) {
+    // a text, the most clauses, the most literals, the greatest sum of weights, and the fault
+    let rows: [(&[u8], u64, u64, u64, ReadError); 11] = [
+        (b"h 1 0\nh 1 0\n", 1, 9, 9, ReadError::TooManyClauses),
+        (b"h 1 0\nx", 1, 9, 9, ReadError::Syntax { line: 2 }),
+        (b"h 1 0\n10 1 0\n", 1, 9, 9, ReadError::TooManyClauses),
+        (b"0", 0, 9, 9, ReadError::TooManyClauses),
+        (b"h 1 2 0\n", 9, 1, 9, ReadError::TooManyLiterals),
+        (b"h 1 0 h 0 2 2 0\n", 9, 1, 9, ReadError::TooManyLiterals),
         (
             b"h 1 -8388608\n",
-            few(9, 1, 9),
+            9,
+            1,
+            9,
             ReadError::TooManyVariables { line: 1 },
         ),
-        (b"h 1\n2x", few(9, 1, 9), ReadError::Syntax { line: 2 }),
-        (
-            b"4 0 5 0\n1 0\n",
-            few(9, 9, 9),
-            ReadError::TooHeavy { line: 2 },
-        ),
+        (b"h 1\n2x", 9, 1, 9, ReadError::Syntax { line: 2 }),
+        (b"4 0 5 0\n1 0\n", 9, 9, 9, ReadError::TooHeavy { line: 2 }),
         (
             b"p wcnf 1 1 8\n7 0 8 0\n3 0",
-            few(9, 9, 9),
+            9,
+            9,
+            9,
             ReadError::TooHeavy { line: 3 },
         ),
-        (b"10", few(9, 9, 9), ReadError::TooHeavy { line: 1 }),
+        (b"10", 9, 9, 9, ReadError::TooHeavy { line: 1 }),
     ];
-    for (place, (text, limits, want)) in rows.iter().enumerate() {
-        match read(rt.alloc(), text, limits) {
-            Ok(_) => assert!(rt; false, "accepted at {place}"),
-            Err(error) => assert_eq!(rt; error, *want, "at {place}"),
-        }
+    for (place, (text, clauses, literals, weight, want)) in rows.iter().enumerate() {
+        let mut limits = Limits::program();
+        limits.clauses = *clauses;
+        limits.literals = *literals;
+        limits.weight = *weight;
+        assert_eq!(rt;
+            fault_of(rt.alloc(), text, &limits),
+            Some(*want),
+            "at {place}"
+        );
     }
 }
 
