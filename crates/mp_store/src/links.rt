@@ -1,5 +1,5 @@
 ghost use Rattle.std.specs.Prelude.{◌≡◌, ◌+◌, ◌^◌, ◌<◌, ◌≤◌, ◌-◌, ◌++◌, ◌∷◌, [], ◌&&◌, ◌||◌, not, cond, OnOk, OnErr, All, length, true, ℕ, map};
-ghost use Rattle.std.specs.List.{filter};
+ghost use Rattle.std.specs.List.{filter, list_any};
 ghost use Rattle.mp_store.specs.Places.{place_of, has};
 ghost use Rattle.mp_store.specs.Tables.{apart, live_in, clause_at, touched, marked, at, room_at, spare_at, uses, ids_from, alive, AreWithin};
 
@@ -41,6 +41,7 @@ fn release(lists: &mut Vec<Occurrences>, clause: &[Lit])
     requires { AreWithin (length lists.old.items) clause.now }
     ensures len { length lists.new.items ≡ length lists.old.items }
     ensures items { (p : ℕ) → at lists.new.items p ≡ at lists.old.items p }
+    ensures spare { (p : ℕ) → spare_at lists.new.items p ≡ cond (has p clause.now) 0 (spare_at lists.old.items p) }
 {
     for lit in clause {
         let list = &mut lists[place(*lit)];
@@ -52,6 +53,7 @@ pub fn release_all(lists: &mut Vec<Occurrences>, added: &[Clause])
     requires { All (AreWithin (length lists.old.items)) added.now }
     ensures len { length lists.new.items ≡ length lists.old.items }
     ensures items { (p : ℕ) → at lists.new.items p ≡ at lists.old.items p }
+    ensures spare { (p : ℕ) → spare_at lists.new.items p ≡ cond (list_any (λ c. has p c) added.now) 0 (spare_at lists.old.items p) }
 {
     for clause in added {
         release(lists, clause.items());

@@ -66,7 +66,8 @@ impl Occurrences {
     }
 
     pub fn clear(&mut self)
-        ensures { self.new.items ≡ [] }
+        ensures items { self.new.items ≡ [] }
+        ensures spare { self.new.spare ≡ self.old.spare }
     {
         self.items.clear();
     }

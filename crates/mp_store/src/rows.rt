@@ -1,6 +1,6 @@
-ghost use Rattle.std.specs.Prelude.{◌≡◌, ◌+◌, ◌^◌, ◌<◌, ◌≤◌, ◌||◌, ◌⊎◌, ◌++◌, [], All, IsTrue, length, vec_len, vec_capacity, ℕ, map, false, true, cond};
+ghost use Rattle.std.specs.Prelude.{◌≡◌, ◌+◌, ◌^◌, ◌<◌, ◌≤◌, ◌||◌, ◌&&◌, not, ◌⊎◌, ◌++◌, [], All, MatchBool, length, vec_len, vec_capacity, ℕ, map, false, true, cond};
 ghost use Rattle.mp_store.specs.Held.{has_empty};
-ghost use Rattle.mp_store.specs.Places.{place_of, has};
+ghost use Rattle.mp_store.specs.Places.{place_of, has, is_in};
 ghost use Rattle.mp_store.specs.Tables.{live_in, killed, clause_at, touched, marked, alive, slots_of, literals_of, IsSize, AreWithin};
 
 use crate::places::place;
@@ -89,6 +89,7 @@ pub fn bury(alloc: Global, rows: &mut Vec<Row>, gone: &[ClauseId])
     ensures room { vec_capacity rows.new ≡ vec_capacity rows.old }
     ensures live { (k : ℕ) → live_in rows.new.items k ≡ live_in rows.old.items k }
     ensures clauses { (k : ℕ) → (clause_at rows.new.items k ≡ clause_at rows.old.items k) ⊎ ((live_in rows.old.items k ≡ false) × (clause_at rows.new.items k ≡ [])) }
+    ensures freed { (k : ℕ) → clause_at rows.new.items k ≡ cond (is_in k gone.now && not (live_in rows.old.items k)) [] (clause_at rows.old.items k) }
 {
     for id in gone {
         let row = &mut rows[*id];
@@ -137,7 +138,7 @@ pub fn literals(clauses: &[Clause]) -> u64
 
 /// Whether the literals can be counted, beside those that are counted already.
 pub fn are_countable(counted: u64, clauses: &[Clause]) -> bool
-    ensures { IsTrue result → counted + literals_of clauses.now < 2 ^ 64 }
+    ensures { MatchBool result (counted + literals_of clauses.now < 2 ^ 64) (2 ^ 64 ≤ counted + literals_of clauses.now) }
 {
     let mut total = counted;
     for clause in clauses {
