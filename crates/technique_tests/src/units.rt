@@ -1,6 +1,6 @@
 //! Unit propagation on small texts, by hand.
 
-use crate::instances::{Seen, look_at, store_of};
+use crate::instances::{BEGUN, CHAIN, FIXED, HALF, REFUTED, Seen, look_at, store_of};
 use mp_logic::NoMemory;
 use mp_store::{Ending, Ran};
 use std::alloc::Global;
@@ -19,81 +19,28 @@ fn run(alloc: Global, text: &[u8], budget: Option<u64>) -> Result<Option<(Ran, S
     Ok(Some((ran, look_at(&store))))
 }
 
-const BEGUN: Seen = Seen {
-    clauses: 2,
-    literals: 3,
-    costs: 1,
-    offset: 0,
-    repairs: 0,
-    lowest: Some(0),
-    refuted: false,
-};
-
-const FIXED: Seen = Seen {
-    clauses: 0,
-    literals: 0,
+const IDLE: Seen = Seen {
+    clauses: 1,
+    literals: 2,
     costs: 0,
-    offset: 3,
-    repairs: 2,
-    lowest: None,
-    refuted: false,
+    ..BEGUN
 };
 
 #[test]
 fn takes_as_many_turns_as_it_may(rt: HostRuntime) -> Result<(), Fail> {
-    let half = Seen {
-        clauses: 1,
-        literals: 1,
-        repairs: 1,
-        lowest: Some(2),
-        ..BEGUN
-    };
-    let rows = [
-        (Some(0), Ending::Spent, false, BEGUN),
-        (Some(1), Ending::Spent, true, half),
-        (Some(2), Ending::Spent, true, FIXED),
-        (Some(3), Ending::Finished, true, FIXED),
-        (None, Ending::Finished, true, FIXED),
+    // a text, the budget, the ending, whether something changed, and what is seen then
+    let rows: [(&[u8], Option<u64>, Ending, bool, Seen); 7] = [
+        (CHAIN, Some(0), Ending::Spent, false, BEGUN),
+        (CHAIN, Some(1), Ending::Spent, true, HALF),
+        (CHAIN, Some(2), Ending::Spent, true, FIXED),
+        (CHAIN, Some(3), Ending::Finished, true, FIXED),
+        (CHAIN, None, Ending::Finished, true, FIXED),
+        (b"h 1 0\nh -1 0\n", None, Ending::Finished, true, REFUTED),
+        (b"h 1 2 0\n", Some(1), Ending::Finished, false, IDLE),
     ];
-    for (budget, ending, changed, seen) in rows {
+    for (text, budget, ending, changed, seen) in rows {
         let want = Some((Ran { ending, changed }, seen));
-        assert_eq!(rt;
-            run(rt.alloc(), b"h 1 0\nh -1 2 0\n3 -2 0\n", budget)?,
-            want
-        );
+        assert_eq!(rt; run(rt.alloc(), text, budget)?, want);
     }
-    Ok(())
-}
-
-#[test]
-fn finds_an_empty_clause_and_nothing_to_do(rt: HostRuntime) -> Result<(), Fail> {
-    let finished = Ran {
-        ending: Ending::Finished,
-        changed: true,
-    };
-    let refuted = Seen {
-        clauses: 1,
-        literals: 0,
-        costs: 0,
-        repairs: 1,
-        lowest: Some(2),
-        refuted: true,
-        ..BEGUN
-    };
-    assert_eq!(rt;
-        run(rt.alloc(), b"h 1 0\nh -1 0\n", None)?,
-        Some((finished, refuted))
-    );
-    let idle = Ran {
-        changed: false,
-        ..finished
-    };
-    let same = Seen {
-        clauses: 1,
-        literals: 2,
-        costs: 0,
-        ..BEGUN
-    };
-    assert_eq!(rt; run(rt.alloc(), b"h 1 2 0\n", Some(1))?, Some((idle, same)));
     Ok(())
 }
