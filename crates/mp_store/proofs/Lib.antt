@@ -7,3 +7,4 @@ pub mod Fixes
 pub mod KeptFixing
 pub mod Runs
 pub mod Started
+pub mod FirstLists

@@ -4,10 +4,10 @@ ghost use Rattle.mp_store.specs.Occurrences.{ids_with};
 ghost use Rattle.mp_store.specs.Rewriting.{cleared};
 ghost use Rattle.mp_store.specs.Tables.{apart, literals_of, AreWithin, HasRoom};
 
-use crate::links;
 use crate::occurrences::Occurrences;
 use crate::rewrite::ClauseId;
 use crate::rows::{self, Row, Size};
+use crate::{first_table, links};
 use mp_logic::{Clause, Clauses, ListOf, Lit, NoMemory};
 use std::alloc::Global;
 use std::marker::Model;
@@ -34,19 +34,32 @@ impl Model for ClauseTable {
 }
 
 impl ClauseTable {
-    pub fn new(alloc: Global) -> ClauseTable
-        ensures { result.slots ≡ [] }
+    /// The table of these clauses, whose places are their ids, for so many places of literals.
+    pub fn of(alloc: Global, places: usize, clauses: Clauses) -> Result<ClauseTable, NoMemory>
+        requires within { All (AreWithin places) clauses }
+        requires distinct { All (λ c. apart c ≡ true) clauses }
+        ensures slots { IfOk result (λ made. made.slots ≡ map Some clauses) }
+        ensures len { IfOk result (λ made. length made.free ≡ places) }
     {
-        ClauseTable {
-            rows: Vec::new(alloc),
-            lists: Vec::new(alloc),
-            marks: Vec::new(alloc),
-            size: Size {
-                clauses: 0,
-                literals: 0,
-            },
-            alloc,
+        if !rows::are_countable(0, clauses.items()) {
+            return Err(NoMemory);
         }
+        let lists = first_table::lists_of(alloc, places, clauses.items())?;
+        let mut marks = Vec::with_capacity(alloc, places)?;
+        links::widen_marks(&mut marks, places)?;
+        let size = Size {
+            clauses: clauses.len() as u64,
+            literals: rows::literals(clauses.items()),
+        };
+        let mut rows = Vec::with_capacity(alloc, clauses.len())?;
+        rows::move_in(&mut rows, clauses);
+        Ok(ClauseTable {
+            rows,
+            lists,
+            marks,
+            size,
+            alloc,
+        })
     }
 
     /// Makes the tables by literal at least this long.

@@ -9,6 +9,7 @@
 
 mod clauses;
 mod costs;
+mod first_table;
 mod fixing;
 mod laws;
 mod links;

@@ -1,4 +1,4 @@
-ghost use Rattle.std.specs.Prelude.{◌≡◌, ◌+◌, ◌<◌, ◌++◌, [], ◌∷◌, OnOk, OnErr};
+ghost use Rattle.std.specs.Prelude.{◌≡◌, ◌+◌, ◌<◌, ◌++◌, [], ◌∷◌, IfOk, OnOk, OnErr};
 ghost use Rattle.std.specs.List.{filter};
 ghost use Rattle.mp_store.specs.Tables.{live_in};
 
@@ -34,6 +34,17 @@ impl Occurrences {
             items: Vec::new(alloc),
             spare: 0,
         }
+    }
+
+    /// No id, with so many places kept free.
+    pub fn with_room(alloc: Global, spare: usize) -> Result<Occurrences, AllocError>
+        ensures items { IfOk result (λ made. made.items ≡ []) }
+        ensures spare { IfOk result (λ made. made.spare ≡ spare) }
+    {
+        Ok(Occurrences {
+            items: Vec::with_capacity(alloc, spare)?,
+            spare,
+        })
     }
 
     /// Keeps one more place free.

@@ -87,10 +87,7 @@ impl Store {
         ensures { IfOk result (λ s. s ≡ started labelled.now limits.now.inner) }
     {
         let hard = first_clauses(alloc, &labelled.hard)?;
-        let mut clauses = ClauseTable::new(alloc);
-        clauses.widen(2 * labelled.vars as usize + 2)?;
-        clauses.reserve(hard.items())?;
-        clauses.replace(&[], hard);
+        let clauses = ClauseTable::of(alloc, 2 * labelled.vars as usize + 2, hard)?;
         let costs = first_costs(alloc, labelled)?;
         Ok(Store {
             clauses,
