@@ -1,4 +1,4 @@
--- The status, the line and the faults of a refusal.
+-- The status, the line and the faults of a refusal, and the number of a status.
 use Rattle.std.specs.Prelude.{ℕ, List, [], ◌∷◌, ◌++◌, codes, decimal}
 use Rattle.maxpre.specs.declared.status.Status.{Status}
 use Rattle.maxpre.specs.declared.status.Status.TheVariants as status
@@ -60,3 +60,16 @@ IsFixed (refusals.Limit exceeded) = Unit {0}
 IsFixed (refusals.Map line) = ⊥
 IsFixed (refusals.Solution line) = ⊥
 IsFixed refusals.TooLong = Unit {0}
+
+-- the number with which the program ends
+abbrev pub exit_status : Status → ℕ
+exit_status status.Ok = 0
+exit_status status.NoMemory = 1
+exit_status status.Usage = 2
+exit_status status.ReadFault = 3
+exit_status status.WriteFault = 4
+exit_status status.BadInstance = 5
+exit_status status.Limit = 6
+exit_status status.BadMap = 7
+exit_status status.BadSolution = 8
+exit_status status.TooLong = 11

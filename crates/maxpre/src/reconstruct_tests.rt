@@ -2,6 +2,7 @@ ghost use Rattle.std.specs.Prelude.{◌<◌, ◌^◌};
 ghost use Rattle.mp_logic.specs.Truth.{weights_of};
 
 use crate::limits::limits;
+use crate::reconstruct::answers_come_back;
 use crate::status::Status;
 use crate::top::maxpre;
 use crate::words::Words;
@@ -302,5 +303,7 @@ fn an_optimum_comes_back(rt: HostRuntime) -> Result<(), Fail> {
     let out = b"s OPTIMUM FOUND\nv 1011\n";
     let well = comes_back(rt.alloc(), text, b"c offset 4\n", 2, out)?;
     assert!(rt; well);
+    // that this is so for every instance is a law
+    answers_come_back();
     Ok(())
 }

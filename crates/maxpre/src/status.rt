@@ -1,4 +1,5 @@
 ghost use Rattle.std.specs.Prelude.{◌≡◌};
+ghost use Rattle.maxpre.specs.Refusals.{exit_status};
 
 /// How a run of the program ends; the number is the program's exit status.
 #[derive(Clone, Copy, Debug, PartialEq, Eq)]
@@ -35,7 +36,7 @@ pub struct Outcome {
 impl Status {
     /// The exit status of the program.
     pub fn number(self) -> u8
-        ensures ok { result ≡ 0 → self ≡ Status.Ok }
+        ensures { result ≡ exit_status self }
     {
         self as u8
     }
