@@ -36,9 +36,12 @@ fn is_written(
 const EACH_KIND: &[u8] =
     b"h 2 1 2 0 h 1 -1 0 h -3 0 h 4 -4 0 2 1 1 0 3 1 -1 0 0 2 0 4 3 2 0 5 -1 0 1 2 3 0 7 0\n";
 
+// Clauses whose first three literals don't say how they are ordered.
+const LONG: &[u8] = b"h 5 4 3 2 1 0 h 4 3 2 1 0 h -2 1 0 h 1 2 3 -4 0 h 2 1 0\n";
+
 #[test]
 fn instances_written_anew(rt: HostRuntime) -> Result<(), Fail> {
-    let rows: [(&[u8], &[u8], &[u32]); 6] = [
+    let rows: [(&[u8], &[u8], &[u32]); 7] = [
         (b"h 0", b"c offset 0\nh 1 0\nh -1 0\n", &[1]),
         (b"5 1 0 3 -1 0", b"c offset 3\n2 1 0\n", &[1]),
         (b"4 0", b"c offset 4\n", &[]),
@@ -48,6 +51,11 @@ fn instances_written_anew(rt: HostRuntime) -> Result<(), Fail> {
             EACH_KIND,
             b"c offset 9\nh 1 2 0\nh 2 3 4 0\nh 2 3 5 0\nh -3 0\n3 -1 0\n4 -4 0\n1 -5 0\n",
             &[1, 2, 3, 5, 6],
+        ),
+        (
+            LONG,
+            b"c offset 0\nh 1 2 0\nh 1 2 3 4 0\nh 1 2 3 4 5 0\nh 1 2 3 -4 0\nh 1 -2 0\n",
+            &[1, 2, 3, 4, 5],
         ),
     ];
     for (text, want, names) in rows {

@@ -54,10 +54,10 @@ then_again Less o = refl
 then_again Equal o = refl
 then_again Greater o = refl
 
-then_within : (p q o : Ordering) → ordering_then q o ≡ o → ordering_then p (ordering_then q (ordering_then p o)) ≡ ordering_then p o
-then_within Less q o h = refl
-then_within Equal q o h = h
-then_within Greater q o h = refl
+then_around : (p o : Ordering) (f : Ordering → Ordering) → f o ≡ o → ordering_then p (f (ordering_then p o)) ≡ ordering_then p o
+then_around Less o f h = refl
+then_around Equal o f h = h
+then_around Greater o f h = refl
 
 first_key : (c d : List Literal) → ordering_then (nat_cmp (key_at c 0) (key_at d 0)) (slice_cmp lit_cmp c d) ≡ slice_cmp lit_cmp c d
 first_key [] [] = refl
@@ -67,16 +67,30 @@ first_key (x ∷ xs) (y ∷ ys) =
     let o = slice_cmp lit_cmp xs ys in
     ap (λ p. ordering_then p (ordering_then (lit_cmp x y) o)) (key_cmp x y) ∙ then_again (lit_cmp x y) o
 
--- where the keys of the first two literals differ they decide
-first_keys : (c d : List Literal) → ordering_then (nat_cmp (key_at c 0) (key_at d 0)) (ordering_then (nat_cmp (key_at c 1) (key_at d 1)) (slice_cmp lit_cmp c d)) ≡ slice_cmp lit_cmp c d
-first_keys [] [] = refl
-first_keys [] (y ∷ ys) = ap (ordering_then (nat_cmp 0 (key_of y))) (none_first (key_at ys 0)) ∙ none_first (key_of y)
-first_keys (x ∷ xs) [] = ap (ordering_then (nat_cmp (key_of x) 0)) (none_second (key_at xs 0)) ∙ none_second (key_of x)
-first_keys (x ∷ xs) (y ∷ ys) =
+two_keys : (c d : List Literal) → ordering_then (nat_cmp (key_at c 0) (key_at d 0)) (ordering_then (nat_cmp (key_at c 1) (key_at d 1)) (slice_cmp lit_cmp c d)) ≡ slice_cmp lit_cmp c d
+two_keys [] [] = refl
+two_keys [] (y ∷ ys) = ap (ordering_then (nat_cmp 0 (key_of y))) (none_first (key_at ys 0)) ∙ none_first (key_of y)
+two_keys (x ∷ xs) [] = ap (ordering_then (nat_cmp (key_of x) 0)) (none_second (key_at xs 0)) ∙ none_second (key_of x)
+two_keys (x ∷ xs) (y ∷ ys) =
     let o = slice_cmp lit_cmp xs ys in
-    let q = nat_cmp (key_at xs 0) (key_at ys 0) in
-    ap (λ p. ordering_then p (ordering_then q (ordering_then (lit_cmp x y) o))) (key_cmp x y) ∙ then_within (lit_cmp x y) q o (first_key xs ys)
+    let f : Ordering → Ordering = λ z. ordering_then (nat_cmp (key_at xs 0) (key_at ys 0)) z in
+    ap (λ p. ordering_then p (f (ordering_then (lit_cmp x y) o))) (key_cmp x y) ∙ then_around (lit_cmp x y) o f (first_key xs ys)
 
+-- where the keys of the first three literals differ they decide
+three_keys : (c d : List Literal) → ordering_then (nat_cmp (key_at c 0) (key_at d 0)) (ordering_then (nat_cmp (key_at c 1) (key_at d 1)) (ordering_then (nat_cmp (key_at c 2) (key_at d 2)) (slice_cmp lit_cmp c d))) ≡ slice_cmp lit_cmp c d
+three_keys [] [] = refl
+three_keys [] (y ∷ ys) =
+    ap (λ o. ordering_then (nat_cmp 0 (key_of y)) (ordering_then (nat_cmp 0 (key_at ys 0)) o)) (none_first (key_at ys 1))
+    ∙ (ap (ordering_then (nat_cmp 0 (key_of y))) (none_first (key_at ys 0)) ∙ none_first (key_of y))
+three_keys (x ∷ xs) [] =
+    ap (λ o. ordering_then (nat_cmp (key_of x) 0) (ordering_then (nat_cmp (key_at xs 0) 0) o)) (none_second (key_at xs 1))
+    ∙ (ap (ordering_then (nat_cmp (key_of x) 0)) (none_second (key_at xs 0)) ∙ none_second (key_of x))
+three_keys (x ∷ xs) (y ∷ ys) =
+    let o = slice_cmp lit_cmp xs ys in
+    let f : Ordering → Ordering = λ z. ordering_then (nat_cmp (key_at xs 0) (key_at ys 0)) (ordering_then (nat_cmp (key_at xs 1) (key_at ys 1)) z) in
+    ap (λ p. ordering_then p (f (ordering_then (lit_cmp x y) o))) (key_cmp x y) ∙ then_around (lit_cmp x y) o f (two_keys xs ys)
+
+-- what decides when it isn't equal
 decided : (p q o r : Ordering) → r ≡ ordering_then p q → (r ≡ Equal → ⊥) → ordering_then p (ordering_then q o) ≡ o → r ≡ o
 decided Less q o r e n h = e ∙ h
 decided Greater q o r e n h = e ∙ h
@@ -84,11 +98,33 @@ decided Equal Less o r e n h = e ∙ h
 decided Equal Greater o r e n h = e ∙ h
 decided Equal Equal o r e n h = absurd (n e)
 
+then_assoc : (p q o : Ordering) → ordering_then (ordering_then p q) o ≡ ordering_then p (ordering_then q o)
+then_assoc Less q o = refl
+then_assoc Equal q o = refl
+then_assoc Greater q o = refl
+
+-- compared numbers that are known otherwise
+compared : (f g k n : ℕ) (o : Ordering) → o ≡ nat_cmp f g → f ≡ k → g ≡ n → o ≡ nat_cmp k n
+compared f g k n o h e d = rw (← e, ← d) h
+
 -- the same, of numbers that are those keys
-pub decided_by_keys : (c d : List Literal) (f g s t : ℕ) (p q r : Ordering) → f ≡ key_at c 0 → g ≡ key_at d 0 → s ≡ key_at c 1 → t ≡ key_at d 1
-    → p ≡ nat_cmp f g → q ≡ nat_cmp s t → r ≡ ordering_then p q → (r ≡ Equal → ⊥) → r ≡ slice_cmp lit_cmp c d
-decided_by_keys c d f g s t p q r fs gs ss ts ps qs rs n =
+pub decided_by_keys : (c d : List Literal) (f g s t x y : ℕ) (p q u v r : Ordering)
+    → f ≡ key_at c 0 → g ≡ key_at d 0 → s ≡ key_at c 1 → t ≡ key_at d 1 → x ≡ key_at c 2 → y ≡ key_at d 2
+    → p ≡ nat_cmp f g → q ≡ nat_cmp s t → u ≡ nat_cmp x y → v ≡ ordering_then q u → r ≡ ordering_then p v → (r ≡ Equal → ⊥) → r ≡ slice_cmp lit_cmp c d
+decided_by_keys c d f g s t x y p q u v r fs gs ss ts xs ys ps qs us vs rs n =
     let o = slice_cmp lit_cmp c d in
-    let first : p ≡ nat_cmp (key_at c 0) (key_at d 0) = ps ∙ (ap (λ x. nat_cmp x g) fs ∙ ap (nat_cmp (key_at c 0)) gs) in
-    let second : q ≡ nat_cmp (key_at c 1) (key_at d 1) = qs ∙ (ap (λ x. nat_cmp x t) ss ∙ ap (nat_cmp (key_at c 1)) ts) in
-    decided p q o r rs n (ap (λ x. ordering_then x (ordering_then q o)) first ∙ (ap (λ x. ordering_then (nat_cmp (key_at c 0) (key_at d 0)) (ordering_then x o)) second ∙ first_keys c d))
+    let first = compared f g _ _ p ps fs gs in
+    let second = compared s t _ _ q qs ss ts in
+    let third = compared x y _ _ u us xs ys in
+    let whole : ordering_then p (ordering_then q (ordering_then u o)) ≡ o = rw (first, second, third) (three_keys c d) in
+    decided p v o r rs n (rw vs (rw (then_assoc q u o) whole))
+
+told : (v w : ℕ) (s t : Bool) → key_of (record { variable = v; negative = s }) ≡ key_of (record { variable = w; negative = t }) → (let l : Literal = record { variable = v; negative = s } in l) ≡ record { variable = w; negative = t }
+told v w true true e = let same : v ≡ w = omega (arith, e) in rw same refl
+told v w true false e = absurd (omega (arith, e))
+told v w false true e = absurd (omega (arith, e))
+told v w false false e = let same : v ≡ w = omega (arith, e) in rw same refl
+
+-- a key tells its literal
+pub key_tells : (l m : Literal) → key_of l ≡ key_of m → l ≡ m
+key_tells l m e = told l.variable m.variable l.negative m.negative e

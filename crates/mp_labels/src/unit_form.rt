@@ -10,7 +10,7 @@ ghost use Rattle.mp_logic.specs.EndStates.{NoUnits};
 ghost use Rattle.mp_labels.specs.UnitForm.{IsPlainForm, IsUnitForm, Occurs, refuted_form};
 ghost use Rattle.mp_labels.specs.Tables.{HasNumber, by_number, soft_by_number, AreSofts};
 
-use crate::clause_rows::ordered;
+use crate::clause_rows::{ClauseRow, literal_at, ordered};
 use crate::labelled::Labelled;
 use crate::names::{names_of, numbers_of};
 use crate::written::Written;
@@ -109,20 +109,23 @@ fn renumbered(alloc: Global, numbers: &[u32], clauses: &Clauses) -> Result<Claus
     let rows = ordered(alloc, clauses)?;
     let mut made = Vec::with_capacity(alloc, rows.len())?;
     for row in &rows {
-        made.push(renumbered_clause(alloc, numbers, row.clause)?)?;
+        made.push(renumbered_clause(alloc, numbers, row)?)?;
     }
     // Where numbers rise with variables this is one pass: the clauses were made in their order, also in memory.
     made.sort_unstable_by(|a, b| compare_clauses(a, b));
     Ok(Clauses::from_vec(made))
 }
 
-fn renumbered_clause(alloc: Global, numbers: &[u32], clause: &[Lit]) -> Result<Clause, NoMemory>
-    requires { All (HasNumber numbers.now) clause.now }
-    ensures { IfOk result (λ made. made ≡ map (by_number numbers.now) clause.now) }
+// The clause of a row under the numbers of its variables.
+fn renumbered_clause(alloc: Global, numbers: &[u32], row: &ClauseRow) -> Result<Clause, NoMemory>
+    requires { All (HasNumber numbers.now) row.now.clause.now }
+    ensures { IfOk result (λ made. made ≡ map (by_number numbers.now) row.now.clause.now) }
 {
-    let mut made = Vec::with_capacity(alloc, clause.len())?;
-    for lit in clause {
-        made.push(renumbered_lit(numbers, *lit))?;
+    let len = row.clause.len();
+    let mut made = Vec::with_capacity(alloc, len)?;
+    for place in 0..len {
+        let lit = literal_at(row, place);
+        made.push(renumbered_lit(numbers, lit))?;
     }
     Ok(Clause::from_vec(made))
 }

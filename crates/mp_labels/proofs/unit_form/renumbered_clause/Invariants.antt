@@ -2,5 +2,5 @@ use Rattle.std.proofs.Common.{◌≡◌, map, take}
 use Rattle.mp_labels.specs.Tables.{by_number}
 use Rattle.mp_labels.proofs.unit_form.renumbered_clause.Given as goal
 
-abbrev pub invariant-loop-lit : goal.invariant-loop-lit
-invariant-loop-lit l = l.made.items ≡ map (by_number l.numbers) (take l.lit-index l.clause)
+abbrev pub invariant-loop-place : goal.invariant-loop-place
+invariant-loop-place l = l.made.items ≡ map (by_number l.numbers) (take l.place l.row.clause.now)
