@@ -10,5 +10,6 @@ pub mod Measures
 pub mod Techniques
 pub mod Turns
 pub mod Tables
+pub mod Buckets
 pub mod Ready
 pub mod Gathering

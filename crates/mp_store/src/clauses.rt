@@ -174,4 +174,19 @@ impl ClauseTable {
         }
         Ok(made)
     }
+
+    /// The live clauses themselves, in order of id.
+    pub fn into_live(self, alloc: Global) -> Result<Clauses, NoMemory>
+        ensures { IfOk result (λ made. made ≡ live_clauses self.slots) }
+    {
+        let ClauseTable { rows, lists, .. } = self;
+        drop(lists);
+        let mut made = ListOf::new(alloc);
+        for row in rows {
+            if row.live {
+                made.push(row.clause)?;
+            }
+        }
+        Ok(made)
+    }
 }

@@ -1,4 +1,4 @@
-ghost use Rattle.std.specs.Prelude.{◌≡◌, ◌+◌, ◌<◌, ◌++◌, [], ◌∷◌, IfOk, OnOk, OnErr};
+ghost use Rattle.std.specs.Prelude.{◌≡◌, ◌+◌, ◌<◌, ◌++◌, [], ◌∷◌, OnOk, OnErr};
 ghost use Rattle.std.specs.List.{filter};
 ghost use Rattle.mp_store.specs.Tables.{live_in};
 
@@ -36,15 +36,17 @@ impl Occurrences {
         }
     }
 
-    /// No id, with so many places kept free.
-    pub fn with_room(alloc: Global, spare: usize) -> Result<Occurrences, AllocError>
-        ensures items { IfOk result (λ made. made.items ≡ []) }
-        ensures spare { IfOk result (λ made. made.spare ≡ spare) }
+    /// Puts an id last. The first one takes memory for so many.
+    pub fn put(&mut self, id: ClauseId, room: usize) -> Result<(), AllocError>
+        ensures items { OnOk result (self.new.items ≡ self.old.items ++ id ∷ []) }
+        ensures spare { self.new.spare ≡ self.old.spare }
     {
-        Ok(Occurrences {
-            items: Vec::with_capacity(alloc, spare)?,
-            spare,
-        })
+        if self.items.is_empty() {
+            self.items.reserve_exact(room)?;
+        }
+        self.items.reserve(self.spare + 1)?;
+        self.items.push_reserved(id);
+        Ok(())
     }
 
     /// Keeps one more place free.

@@ -1,4 +1,5 @@
-ghost use Rattle.std.specs.Prelude.{◌≡◌, ◌<◌, ◌≤◌, ◌+◌, ◌*◌, ◌^◌, ◌++◌, ◌∷◌, [], OnOk, OnErr, IfOk, IfSome, MatchOption, length, Some, None, vec_len, vec_capacity, ℕ, false, true, nat_lt, sum_by, replicate, if◌then◌else◌};
+ghost use Rattle.std.specs.Prelude.{◌≡◌, All, ◌<◌, ◌≤◌, ◌+◌, ◌*◌, ◌^◌, ◌++◌, ◌∷◌, [], OnOk, OnErr, IfOk, IfSome, MatchOption, length, Some, None, vec_len, vec_capacity, ℕ, false, true, nat_lt, sum_by, replicate, if◌then◌else◌};
+ghost use Rattle.mp_logic.specs.Literal.{IsUpTo};
 ghost use Rattle.mp_store.specs.Places.{place_of, width};
 ghost use Rattle.mp_store.specs.Held.{Held, clause_of, is_live, live_clauses, costs_of, labelled_of, weight_in, has_empty};
 ghost use Rattle.mp_store.specs.Occurrences.{ids_with, AreExactOccurrences, IsNextLive};
@@ -57,27 +58,33 @@ fn append(repairs: &mut Vec<Repair>, more: Repairs)
 }
 
 /// The clauses with which a store begins: the empty one alone where there is one.
-fn first_clauses(alloc: Global, hard: &Clauses) -> Result<Clauses, NoMemory>
-    ensures { IfOk result (λ made. made ≡ (if has_empty hard.now then ([] ∷ []) else hard.now)) }
+fn first_clauses(alloc: Global, hard: Clauses) -> Result<Clauses, NoMemory>
+    ensures { IfOk result (λ made. made ≡ (if has_empty hard then ([] ∷ []) else hard)) }
 {
     if rows::has_empty_clause(hard.items()) {
         let mut clauses: Clauses = ListOf::new(alloc);
         clauses.push(ListOf::new(alloc))?;
         return Ok(clauses);
     }
-    hard.copy(alloc)
+    Ok(hard)
 }
 
 /// The costs with which a store begins: none where a clause is empty.
-fn first_costs(alloc: Global, labelled: &Labelled) -> Result<CostTable, NoMemory>
-    ensures { IfOk result (λ made. made.weights ≡ weighted (if has_empty labelled.now.hard then [] else labelled.now.costs) (replicate (width labelled.now.vars) 0)) }
+fn first_costs(
+    alloc: Global,
+    vars: u32,
+    hard: &Clauses,
+    costs: &Costs,
+) -> Result<CostTable, NoMemory>
+    requires { All (λ c. IsUpTo vars c.lit) costs.now }
+    ensures { IfOk result (λ made. made.weights ≡ weighted (if has_empty hard.now then [] else costs.now) (replicate (width vars) 0)) }
 {
-    let mut costs = CostTable::new(alloc, 2 * labelled.vars as usize + 2)?;
-    if rows::has_empty_clause(labelled.hard.items()) {
-        return Ok(costs);
+    let mut table = CostTable::new(alloc, 2 * vars as usize + 2)?;
+    if rows::has_empty_clause(hard.items()) {
+        return Ok(table);
     }
-    costs.change(labelled.costs.items(), 0);
-    Ok(costs)
+    table.change(costs.items(), 0);
+    Ok(table)
 }
 
 impl Store {
@@ -86,18 +93,37 @@ impl Store {
         requires { labelled.now.vars ≤ limits.now.inner }
         ensures { IfOk result (λ s. s ≡ started labelled.now limits.now.inner) }
     {
-        let hard = first_clauses(alloc, &labelled.hard)?;
-        let clauses = ClauseTable::of(alloc, 2 * labelled.vars as usize + 2, hard)?;
-        let costs = first_costs(alloc, labelled)?;
+        Store::from_labelled(alloc, labelled.copy(alloc)?, limits)
+    }
+
+    /// The same, out of the state's own clauses.
+    pub fn from_labelled(
+        alloc: Global,
+        labelled: Labelled,
+        limits: &Limits,
+    ) -> Result<Store, NoMemory>
+        requires { labelled.vars ≤ limits.now.inner }
+        ensures { IfOk result (λ s. s ≡ started labelled limits.now.inner) }
+    {
+        let Labelled {
+            vars,
+            hard,
+            costs,
+            offset,
+        } = labelled;
+        let refuted = rows::has_empty_clause(hard.items());
+        let costs = first_costs(alloc, vars, &hard, &costs)?;
+        let first = first_clauses(alloc, hard)?;
+        let clauses = ClauseTable::of(alloc, 2 * vars as usize + 2, first)?;
         Ok(Store {
             clauses,
             costs,
             repairs: Vec::new(alloc),
             prepared: None,
-            offset: labelled.offset,
-            vars: labelled.vars,
+            offset,
+            vars,
             inner: limits.inner,
-            refuted: rows::has_empty_clause(labelled.hard.items()),
+            refuted,
             alloc,
         })
     }
@@ -259,5 +285,27 @@ impl Store {
             costs: self.costs.list(alloc)?,
             offset: self.offset,
         })
+    }
+
+    /// The labelled state of the store and its repairs, out of the store's own clauses.
+    pub fn into_labelled(self, alloc: Global) -> Result<(Labelled, Repairs), NoMemory>
+        ensures labelled { IfOk result (λ made. made.0 ≡ labelled_of self) }
+        ensures repairs { IfOk result (λ made. made.1 ≡ self.repairs) }
+    {
+        let vars = self.vars();
+        let Store {
+            clauses,
+            costs,
+            repairs,
+            offset,
+            ..
+        } = self;
+        let labelled = Labelled {
+            vars,
+            hard: clauses.into_live(alloc)?,
+            costs: costs.list(alloc)?,
+            offset,
+        };
+        Ok((labelled, ListOf::from_vec(repairs)))
     }
 }

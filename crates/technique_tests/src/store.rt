@@ -1,8 +1,8 @@
 //! A store through a few rewrites, by hand.
 
 use crate::instances::{BEGUN, CHAIN, FIXED, HALF, REFUTED, Seen, fix, look_at, store_of};
-use mp_logic::{Lit, NoMemory};
-use mp_store::{fixing_keeps_store, refuting_keeps, starting_keeps};
+use mp_logic::{Limits, Lit, NoMemory};
+use mp_store::{Store, fixing_keeps_store, refuting_keeps, starting_keeps};
 use std::alloc::Global;
 use std::test::Fail;
 
@@ -18,7 +18,33 @@ fn after_fixing(alloc: Global, text: &[u8], lits: &[Lit]) -> Result<Option<Seen>
     if state.offset != store.offset() || state.vars != store.vars() {
         return Ok(None);
     }
-    Ok(Some(look_at(&store)))
+    let seen = look_at(&store);
+    if handed_on(alloc, store)? != Some(handed(seen)) {
+        return Ok(None);
+    }
+    Ok(Some(seen))
+}
+
+/// What is seen of the store of the labelled state that a store hands on, with the number of its repairs.
+fn handed_on(alloc: Global, store: Store) -> Result<Option<Seen>, NoMemory> {
+    let (state, repairs) = store.into_labelled(alloc)?;
+    let limits = Limits::program();
+    if state.vars > limits.inner {
+        return Ok(None);
+    }
+    let again = Store::from_labelled(alloc, state, &limits)?;
+    Ok(Some(Seen {
+        repairs: repairs.len(),
+        ..look_at(&again)
+    }))
+}
+
+/// The same, where the ids begin at 0 again.
+fn handed(seen: Seen) -> Seen {
+    Seen {
+        lowest: if seen.clauses == 0 { None } else { Some(0) },
+        ..seen
+    }
 }
 
 #[test]
