@@ -46,7 +46,7 @@ RunsPreprocess file techniques map form old new asked asked' ended =
 
 -- How `preprocess` ends. Done, the map and the output are right for the file. After a fault in writing they are fronts of
 -- such texts, the output only once the map is whole. The names are those of the file and of the map.
-abbrev pub EndsPreprocess : List ℕ → List ℕ → List ℕ → Form → World → World → Option (List (List ℕ)) → Option (List (List ℕ)) → Status → Type 0
-EndsPreprocess file techniques map form old new asked asked' ended =
+abbrev pub EndsPreprocess : List ℕ → List ℕ → List ℕ → Form → World → World → Option (List (List ℕ)) → Option (List (List ℕ)) → Status → ℕ → Type 0
+EndsPreprocess file techniques map form old new asked asked' ended seen =
     Ends (file ∷ map ∷ []) (λ w. IfSome (old.file file) (HasPreprocessed techniques form old w)) (λ w. IfSome (old.file file) (HasPreprocessedPart techniques form old w))
-    (IsPreprocessRefusal (old.file file)) (IsGoodInstance (old.file file)) old new asked asked' ended
+    (IsPreprocessRefusal (old.file file)) (IsGoodInstance (old.file file)) old new asked asked' ended seen

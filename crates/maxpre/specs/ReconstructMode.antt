@@ -82,7 +82,7 @@ RunsReconstruct file map form old new asked asked' ended =
 
 -- How `reconstruct` ends. Done, the output is right for the map and the solution in its files; after a fault in writing it
 -- is a front of such a text. The names are those of the map and then of the solution.
-abbrev pub EndsReconstruct : List ℕ → List ℕ → Values → World → World → Option (List (List ℕ)) → Option (List (List ℕ)) → Status → Type 0
-EndsReconstruct file map form old new asked asked' ended =
+abbrev pub EndsReconstruct : List ℕ → List ℕ → Values → World → World → Option (List (List ℕ)) → Option (List (List ℕ)) → Status → ℕ → Type 0
+EndsReconstruct file map form old new asked asked' ended seen =
     Ends (map ∷ file ∷ []) (λ w. IfBoth (old.file map) (old.file file) (HasReconstructed form old w)) (λ w. IfBoth (old.file map) (old.file file) (HasReconstructedPart form old w))
-    (IsReconstructRefusal (old.file map) (old.file file)) (AreGoodAnswers (old.file map) (old.file file)) old new asked asked' ended
+    (IsReconstructRefusal (old.file map) (old.file file)) (AreGoodAnswers (old.file map) (old.file file)) old new asked asked' ended seen

@@ -1,14 +1,14 @@
 -- How a mode of the program runs and ends. A mode is told by the names that it asks the host for, in order; by what holds
 -- of the world at the end where it is done, and where a write failed; by the causes of its refusals; and by what good
 -- inputs are.
-use Rattle.std.specs.Prelude.{◌≡◌, ◌≢◌, ℕ, ◌<◌, List, length, Option, Result, Err, IfSome, IfErr, OnOk}
+use Rattle.std.specs.Prelude.{◌≡◌, ◌≢◌, ℕ, ◌-◌, ◌<◌, List, length, Option, Result, Err, IfSome, IfErr, OnOk}
 use Rattle.mp_host.specs.World.{World, Asked, SameButInput}
 use Rattle.maxpre.specs.declared.status.Status.{Status}
 use Rattle.maxpre.specs.declared.status.Status.TheVariants as status
 use Rattle.maxpre.specs.declared.refusal.Refusal.{Refusal}
 use Rattle.maxpre.specs.declared.refusal.Refusal.TheVariants as refusals
 use Rattle.maxpre.specs.Outcomes.{AskedFirst, Logged, IsUntouched}
-use Rattle.maxpre.specs.Refusals.{line_of, status_of}
+use Rattle.maxpre.specs.Refusals.{line_of, status_of, faults_of}
 
 -- the greatest accepted length of an input, in bytes
 abbrev pub longest : ℕ
@@ -64,13 +64,14 @@ pub record Runs (names : List (List ℕ)) (Done Part : World → Type 0) (Cause 
   pub all_names : OnOk ended (Asked asked asked' names)
 
 -- How a mode ends. At status `Ok` it is done, and nothing was said. After a fault in writing the ports have fronts of its
--- texts. Otherwise nothing is written but a line on the log, or a front of it, which says the cause. Good inputs end it so
--- that no input is to blame. The names asked for are a front of its names, and at `Ok` all of them.
+-- texts. Otherwise nothing is written but a line on the log, which says the cause; it is whole unless a further host call
+-- failed. Good inputs end it so that no input is to blame. The names asked for are a front of its names, and at `Ok` all of
+-- them.
 pub record Ends (names : List (List ℕ)) (Done Part : World → Type 0) (Cause : Refusal → Type 0) (Good : Type 0)
-    (old new : World) (asked asked' : Option (List (List ℕ))) (ended : Status) : Type 0 where
+    (old new : World) (asked asked' : Option (List (List ℕ))) (ended : Status) (seen : ℕ) : Type 0 where
   pub done : ended ≡ status.Ok → Done new
   pub part : ended ≡ status.WriteFault → Part new
-  pub refused : ended ≢ status.Ok → (r : Refusal) × (status_of r ≡ ended) × Logged old new (line_of r) × Cause r
+  pub refused : ended ≢ status.Ok → (r : Refusal) × (status_of r ≡ ended) × Logged old new (line_of r) (seen - faults_of r) × Cause r
   pub silent : ended ≡ status.Ok → new.log ≡ old.log
   pub untouched : ended ≢ status.Ok → ended ≢ status.WriteFault → IsUntouched old new
   pub accepts : Good → IsGoodEnd ended

@@ -50,7 +50,7 @@ pub fn write_out<H: Host>(host: &mut H, out: &[u8]) -> Result<(), Failed>
 
 /// Says the line of a refusal, and answers how the run ends.
 pub fn refuse<H: Host>(alloc: Global, refusal: Refusal, host: &mut H) -> Outcome
-    ensures refuses { Refuses refusal (H.world host.old) (H.world host.new) result.status }
+    ensures refuses { Refuses refusal (H.world host.old) (H.world host.new) result.status result.faults_seen }
     ensures untouched { IsUntouched (H.world host.old) (H.world host.new) }
     ensures least { faults_of refusal ≤ result.faults_seen }
     ensures most { result.faults_seen ≤ faults_of refusal + 1 }
@@ -72,7 +72,7 @@ pub fn refuse<H: Host>(alloc: Global, refusal: Refusal, host: &mut H) -> Outcome
 fn ended<H: Host>(refusal: Refusal, line: &[u8], host: &mut H) -> Outcome
     requires { line.now ≡ line_of refusal }
     ensures status { result.status ≡ status_of refusal }
-    ensures line { SaidLine (H.world host.old) (H.world host.new) (line_of refusal) }
+    ensures line { SaidLine (H.world host.old) (H.world host.new) (line_of refusal) (result.faults_seen - faults_of refusal) }
     ensures least { faults_of refusal ≤ result.faults_seen }
     ensures most { result.faults_seen ≤ faults_of refusal + 1 }
     ensures counted { RoseBy (result.faults_seen - faults_of refusal) (H.read_faults host.old) (H.write_faults host.old) (H.read_faults host.new) (H.write_faults host.new) }
@@ -88,9 +88,9 @@ fn ended<H: Host>(refusal: Refusal, line: &[u8], host: &mut H) -> Outcome
 }
 
 // Writes a line to the log, and answers 1 where a write failed, else 0.
-#[tactic(auto, using(crate::proofs::Ports::said_all))]
+#[tactic(auto, using(crate::proofs::Ports::said_all, crate::proofs::Ports::said_part))]
 fn say<H: Host>(host: &mut H, line: &[u8]) -> u64
-    ensures line { SaidLine (H.world host.old) (H.world host.new) line.now }
+    ensures line { SaidLine (H.world host.old) (H.world host.new) line.now result }
     ensures one { result ≤ 1 }
     ensures counted { RoseBy result (H.read_faults host.old) (H.write_faults host.old) (H.read_faults host.new) (H.write_faults host.new) }
     ensures names { H.asked host.new ≡ H.asked host.old }

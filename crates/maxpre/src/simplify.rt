@@ -9,7 +9,7 @@ ghost use Rattle.maxpre.specs.Words.{IsTechniques};
 
 use crate::limits::limits;
 use mp_labels::Labelled;
-use mp_logic::{Copied, NoMemory, Repair, Repairs};
+use mp_logic::{NoMemory, Repairs};
 use mp_store::Store;
 use std::alloc::Global;
 use t_units::units;
@@ -30,11 +30,35 @@ pub fn simplify(alloc: Global, labelled: Labelled, techniques: &str) -> Result<S
     ensures proper { IfOk result (λ s. All (IsProper s.labelled.vars) s.repairs) }
     ensures propagated { IfOk result (λ s. techniques.now ≢ codes "#" → IsPropagated s.labelled) }
 {
+    if techniques == "#" {
+        // no technique runs, so the clauses need no store
+        return Ok(Simplified {
+            labelled,
+            repairs: Repairs::new(alloc),
+        });
+    }
+    run_techniques(alloc, labelled, techniques)
+}
+
+// Runs techniques on a store of the labelled state; some letter is named.
+fn run_techniques(
+    alloc: Global,
+    labelled: Labelled,
+    techniques: &str,
+) -> Result<Simplified, NoMemory>
+    requires vars { labelled.vars ≤ 16777215 }
+    requires techniques { IsTechniques techniques.now }
+    requires named { techniques.now ≢ codes "#" }
+    ensures keeps { IfOk result (λ s. Keeps labelled s.labelled s.repairs) }
+    ensures vars { IfOk result (λ s. s.labelled.vars ≤ 16777215) }
+    ensures proper { IfOk result (λ s. All (IsProper s.labelled.vars) s.repairs) }
+    ensures propagated { IfOk result (λ s. IsPropagated s.labelled) }
+{
     let mut store = started(alloc, labelled)?;
     for letter in techniques.as_bytes() {
         run_letter(alloc, &mut store, *letter)?;
     }
-    match left_in(alloc, &store) {
+    match left_in(alloc, store) {
         Ok(left) => Ok(left),
         Err(refused) => Err(refused),
     }
@@ -48,13 +72,13 @@ fn started(alloc: Global, labelled: Labelled) -> Result<Store, NoMemory>
 {
     let vars = labelled.vars;
     prove!(vars <= 16_777_215);
-    match Store::new(alloc, &labelled, &limits()) {
+    match Store::from_labelled(alloc, labelled, &limits()) {
         Ok(store) => Ok(store),
         Err(refused) => Err(refused),
     }
 }
 
-// Runs the technique of a letter; `#` is none.
+// Runs the technique of a letter, where it has one.
 fn run_letter(alloc: Global, store: &mut Store, letter: u8) -> Result<(), NoMemory>
     ensures keeps { OnOk result (KeptSince store.old store.new) }
     ensures inner { OnOk result (store.new.inner ≡ store.old.inner) }
@@ -81,27 +105,17 @@ fn propagate(alloc: Global, store: &mut Store) -> Result<(), NoMemory>
 }
 
 // The labelled state and the repairs of a store.
-fn left_in(alloc: Global, store: &Store) -> Result<Simplified, NoMemory>
-    ensures labelled { IfOk result (λ s. s.labelled ≡ labelled_of store.now) }
-    ensures repairs { IfOk result (λ s. s.repairs ≡ store.now.repairs) }
-    ensures proper { IfOk result (λ s. All (IsProper store.now.vars) s.repairs) }
-    ensures vars { store.now.vars ≤ store.now.inner }
-    ensures units { HasNoUnits store.now → IsPropagated (labelled_of store.now) }
+fn left_in(alloc: Global, store: Store) -> Result<Simplified, NoMemory>
+    ensures labelled { IfOk result (λ s. s.labelled ≡ labelled_of store) }
+    ensures repairs { IfOk result (λ s. s.repairs ≡ store.repairs) }
+    ensures proper { IfOk result (λ s. All (IsProper store.vars) s.repairs) }
+    ensures vars { store.vars ≤ store.inner }
+    ensures units { HasNoUnits store → IsPropagated (labelled_of store) }
 {
     // what holds of each store: its repairs are proper, and a refuted store has an empty clause
     let _ = store.vars();
-    Ok(Simplified {
-        labelled: store.labelled(alloc)?,
-        repairs: copied(alloc, store.repairs())?,
-    })
-}
-
-fn copied(alloc: Global, repairs: &[Repair]) -> Result<Repairs, NoMemory>
-    ensures { IfOk result (λ made. made ≡ repairs.now) }
-{
-    let mut made = Repairs::new(alloc);
-    for repair in repairs {
-        made.push(repair.copy(alloc)?)?;
+    match store.into_labelled(alloc) {
+        Ok((labelled, repairs)) => Ok(Simplified { labelled, repairs }),
+        Err(refused) => Err(refused),
     }
-    Ok(made)
 }

@@ -23,15 +23,15 @@ use std::alloc::Global;
 /// `Usage` comes exactly where the words are no command, and then the host is not asked for anything. What the other
 /// statuses mean is said by `EndsPreprocess` (at `Ok` the map and the output are right for the content of the file, for
 /// every model) and by `EndsReconstruct` (at `Ok` the output is the solution of one file, carried back by the map of
-/// another). Want of memory can come at any point. A refusal's line goes to the log; a fault in writing it changes nothing
-/// of the status.
+/// another). Want of memory can come at any point. A refusal's line goes to the log, whole unless writing it fails, which
+/// changes nothing of the status.
 pub fn maxpre<H: Host>(alloc: Global, words: &Words, host: &mut H) -> Outcome
     ensures usage { (result.status ≡ Status.Usage) ↔ (IsCommandLine words.now → ⊥) }
-    ensures unused { result.status ≡ Status.Usage → EndsUnused (H.world host.old) (H.world host.new) (H.asked host.old) (H.asked host.new) }
+    ensures unused { result.status ≡ Status.Usage → EndsUnused (H.world host.old) (H.world host.new) (H.asked host.old) (H.asked host.new) result.faults_seen }
     ensures preprocess { (file techniques map : List ℕ) (form : Form) → IsPreprocess words.now file techniques map form
-        → EndsPreprocess file techniques map form (H.world host.old) (H.world host.new) (H.asked host.old) (H.asked host.new) result.status }
+        → EndsPreprocess file techniques map form (H.world host.old) (H.world host.new) (H.asked host.old) (H.asked host.new) result.status result.faults_seen }
     ensures reconstruct { (file map : List ℕ) (form : Values) → IsReconstruct words.now file map form
-        → EndsReconstruct file map form (H.world host.old) (H.world host.new) (H.asked host.old) (H.asked host.new) result.status }
+        → EndsReconstruct file map form (H.world host.old) (H.world host.new) (H.asked host.old) (H.asked host.new) result.status result.faults_seen }
     ensures read_fault { result.status ≡ Status.ReadFault → Rose (H.read_faults host.old) (H.read_faults host.new) }
     ensures write_fault { result.status ≡ Status.WriteFault → Rose (H.write_faults host.old) (H.write_faults host.new) }
     ensures counted { RoseBy result.faults_seen (H.read_faults host.old) (H.write_faults host.old) (H.read_faults host.new) (H.write_faults host.new) }

@@ -2,7 +2,7 @@ use Rattle.std.proofs.Common.{◌≡◌, ◌<◌, ℕ, get_or}
 use Rattle.mp_logic.specs.Keeping.{Keeps}
 use Rattle.mp_store.specs.Held.{labelled_of}
 use Rattle.maxpre.specs.Simplifying.{HasNoUnits}
-use Rattle.maxpre.proofs.simplify.simplify.Given as goal
+use Rattle.maxpre.proofs.simplify.run_techniques.Given as goal
 
 -- the store keeps the state with its repairs, and once a letter was run it has no units
 abbrev pub invariant-loop-letter : goal.invariant-loop-letter
