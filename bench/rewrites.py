@@ -1,8 +1,8 @@
 #!/usr/bin/env python3
-"""Prints what `yardstick rewrites N` is to print, by a plain table of clauses: rewrites.py N"""
+"""Prints what `yardstick rewrites-ORDER N` is to print, by a plain table of clauses: rewrites.py near|far N"""
 import sys
 
-many = int(sys.argv[1])
+near, many = sys.argv[1] == "near", int(sys.argv[2])
 state = 2463534242
 
 
@@ -14,21 +14,23 @@ def below(bound):
     return state % bound
 
 
-def clause():
+def clause(place):
     third = many // 12 + 1
+    part = min(third, 64) if near else third
+    base = 3 * (place % (third - part + 1)) if near else 0
     lits = []
-    for first in (0, third, 2 * third):
-        variable = first + 1 + below(third)
+    for first in (base, base + part, base + 2 * part):
+        variable = first + 1 + below(part)
         lits.append(-variable if below(2) == 1 else variable)
     return lits
 
 
-live = {place: clause() for place in range(many)}
+live = {place: clause(place) for place in range(many)}
 fresh, applied = many, 0
 for turn in range(many):
-    place = turn * 2654435761 % max(1, many)
+    place = turn if near else turn * 2654435761 % max(1, many)
     if place in live:
-        added = [clause() for _ in range(below(2))]
+        added = [clause(place) for _ in range(below(2))]
         del live[place]
         for lits in added:
             live[fresh] = lits

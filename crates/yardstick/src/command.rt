@@ -2,6 +2,8 @@
 ghost use Rattle.std.specs.Prelude.{◌≤◌, IfSome};
 ghost use Rattle.yardstick.specs.Commands.{IsSmall};
 
+use crate::draws::Order;
+
 /// The greatest number of clauses and repairs that are drawn.
 const MOST: u32 = 30_000_000;
 
@@ -9,7 +11,8 @@ const MOST: u32 = 30_000_000;
 #[derive(Clone, Copy, Debug)]
 pub enum Command<'a> {
     Read(&'a str),
-    Rewrites { clauses: u32, turns: u32 },
+    Store { order: Order, clauses: u32 },
+    Rewrites { order: Order, clauses: u32 },
     MapWrite(u32),
     MapRead(&'a str),
     MapCopy(&'a str),
@@ -21,17 +24,22 @@ pub fn command_of<'a>(mode: &str, word: &'a str) -> Option<Command<'a>>
 {
     match mode {
         "read" => Some(Command::Read(word)),
-        "store" => Some(Command::Rewrites {
+        "store-near" => Some(Command::Store {
+            order: Order::Near,
             clauses: number_of(word)?,
-            turns: 0,
         }),
-        "rewrites" => {
-            let clauses = number_of(word)?;
-            Some(Command::Rewrites {
-                clauses,
-                turns: clauses,
-            })
-        }
+        "store-far" => Some(Command::Store {
+            order: Order::Far,
+            clauses: number_of(word)?,
+        }),
+        "rewrites-near" => Some(Command::Rewrites {
+            order: Order::Near,
+            clauses: number_of(word)?,
+        }),
+        "rewrites-far" => Some(Command::Rewrites {
+            order: Order::Far,
+            clauses: number_of(word)?,
+        }),
         "map-write" => Some(Command::MapWrite(number_of(word)?)),
         "map-read" => Some(Command::MapRead(word)),
         "map-copy" => Some(Command::MapCopy(word)),

@@ -1,9 +1,55 @@
 //! Pseudo-random clauses.
-ghost use Rattle.std.specs.Prelude.{◌≡◌, ◌≤◌, ◌<◌, ◌+◌, ◌*◌, ◌^◌, IfOk, All, length};
-ghost use Rattle.yardstick.specs.Drawn.{IsDrawn};
+ghost use Rattle.std.specs.Prelude.{◌≡◌, ◌≤◌, ◌<◌, ◌+◌, ◌*◌, ◌/◌, ◌^◌, IfOk};
+ghost use Rattle.yardstick.specs.Drawn.{IsDrawn, variables_for};
 
-use mp_logic::{Clause, Clauses, ListOf, Lit, NoMemory};
+use mp_logic::{Clause, ListOf, Lit, NoMemory};
 use std::alloc::Global;
+
+/// Which variables the clauses have, and in which order they are rewritten.
+#[derive(Clone, Copy, Debug)]
+pub enum Order {
+    /// variables that lie close together, and clauses in order of id
+    Near,
+    /// variables from anywhere, and clauses far apart
+    Far,
+}
+
+/// The variables from which a clause is drawn: three parts of one length, behind the first ones of so many.
+#[derive(Clone, Copy, Debug)]
+pub struct Window {
+    first: u32,
+    part: u32,
+    vars: u32,
+    ghost some: { 1 ≤ part },
+    ghost fits: { first + 3 * part ≤ vars },
+    ghost few: { vars ≤ 16777215 },
+}
+
+/// How many variables a part has where they lie close together.
+const CLOSE: u32 = 64;
+
+/// The window for the clause of an id, one of so many.
+pub fn window_of(order: Order, clauses: u32, id: u32) -> Window
+    requires { clauses ≤ 30000000 }
+    ensures { result.vars ≡ variables_for clauses }
+{
+    let third = clauses / 12 + 1;
+    match order {
+        Order::Near => {
+            let part = if third < CLOSE { third } else { CLOSE };
+            Window {
+                first: 3 * (id % (third - part + 1)),
+                part,
+                vars: 3 * third,
+            }
+        }
+        Order::Far => Window {
+            first: 0,
+            part: third,
+            vars: 3 * third,
+        },
+    }
+}
 
 /// Pseudo-random numbers (Marsaglia, 2003), the same ones in each run.
 #[derive(Clone, Copy, Debug)]
@@ -39,33 +85,18 @@ impl Draws {
         }
     }
 
-    /// A clause with one variable from each third of the variables.
-    pub fn clause(&mut self, alloc: Global, third: u32) -> Result<Clause, NoMemory>
-        requires some { 1 ≤ third }
-        requires fits { 3 * third < 2 ^ 32 }
-        ensures { IfOk result (IsDrawn (3 * third)) }
+    /// A clause with one variable from each part of a window.
+    pub fn clause(&mut self, alloc: Global, window: Window) -> Result<Clause, NoMemory>
+        ensures { IfOk result (IsDrawn window.vars) }
     {
-        let low = self.lit(0, third);
-        let middle = self.lit(third, third);
-        let high = self.lit(2 * third, third);
+        let Window { first, part, .. } = window;
+        let low = self.lit(first, part);
+        let middle = self.lit(first + part, part);
+        let high = self.lit(first + 2 * part, part);
         let mut clause = ListOf::new(alloc);
         clause.push(low)?;
         clause.push(middle)?;
         clause.push(high)?;
         Ok(clause)
-    }
-
-    /// So many clauses.
-    pub fn clauses(&mut self, alloc: Global, third: u32, many: u32) -> Result<Clauses, NoMemory>
-        requires some { 1 ≤ third }
-        requires fits { 3 * third < 2 ^ 32 }
-        ensures drawn { IfOk result (All (IsDrawn (3 * third))) }
-        ensures many { IfOk result (λ made. length made ≡ many) }
-    {
-        let mut made = ListOf::new(alloc);
-        'draws: while made.len() < many as usize {
-            made.push(self.clause(alloc, third)?)?;
-        }
-        Ok(made)
     }
 }

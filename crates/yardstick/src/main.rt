@@ -2,8 +2,9 @@
 //! store's rewrites, and maps beside a plain copy of their text.
 //!
 //! `command_of` says which words name which part. `read FILE` prints the sizes of the instance that the file denotes
-//! (clauses of `sizes_of`); `store N` makes a store of N drawn clauses and `rewrites N` also applies N drawn rewrites,
-//! each of them valid (clause `exact` of `change`), and both print what is left; `map-write N` writes a valid map with N
+//! (clauses of `sizes_of`); `store-far N` makes a store of N drawn clauses and `rewrites-far N` also applies N drawn
+//! rewrites, each of them valid (clause `exact` of `change`), and both print what is left; with `near` the clauses have
+//! variables close together and are rewritten in order of id; `map-write N` writes a valid map with N
 //! repairs (clauses of `drawn_map`), `map-read FILE` reads one, and `map-copy FILE` copies a text token by token (clause
 //! of `copied`). It stands on the library crates.
 #![tactic(auto)]
@@ -44,7 +45,7 @@ fn main(rt: HostRuntime) -> ExitCode {
 
 fn usage(rt: HostRuntime) -> ExitCode {
     let _ = eprintln!(rt;
-        "usage: yardstick read|map-read|map-copy FILE, or yardstick store|rewrites|map-write N"
+        "usage: yardstick read|map-read|map-copy FILE, or yardstick store-near|store-far|rewrites-near|rewrites-far|map-write N"
     );
     ExitCode::from(2)
 }

@@ -4,7 +4,7 @@ ghost use Rattle.mp_logic.specs.Labelled.{IsProper};
 ghost use Rattle.mp_map.specs.Maps.{IsMap};
 ghost use Rattle.yardstick.specs.Drawn.{IsDrawn};
 
-use crate::draws::Draws;
+use crate::draws::{Draws, Order, window_of};
 use mp_logic::{Clause, ListOf, NoMemory, Repair};
 use mp_map::MapFile;
 use std::alloc::Global;
@@ -15,16 +15,17 @@ pub fn drawn_map(alloc: Global, many: u32) -> Result<MapFile, NoMemory>
     ensures valid { IfOk result IsMap }
     ensures many { IfOk result (λ map. length map.repairs ≡ many) }
 {
-    let third = many / 12 + 1;
+    let window = window_of(Order::Far, many, 0);
+    let vars = 3 * (many / 12 + 1);
     let mut draws = Draws::new();
     let mut repairs = ListOf::new(alloc);
     'draws: while repairs.len() < many as usize {
-        let clause = draws.clause(alloc, third)?;
+        let clause = draws.clause(alloc, window)?;
         repairs.push(repair_of(alloc, clause)?)?;
     }
     Ok(MapFile {
-        original: 3 * third,
-        inner: 3 * third,
+        original: vars,
+        inner: vars,
         written: 0,
         offset: 0,
         names: ListOf::new(alloc),

@@ -4,6 +4,7 @@ ghost use Rattle.std.specs.Prelude.{◌≤◌};
 
 use crate::command::Command;
 use crate::copying::copied;
+use crate::draws::Order;
 use crate::maps::drawn_map;
 use crate::rewriting::rewritten;
 use crate::sizes::sizes_of;
@@ -39,7 +40,8 @@ pub fn run(rt: HostRuntime, command: Command<'_>) -> Result<(), Trouble>
 {
     match command {
         Command::Read(name) => read_instance(rt, name),
-        Command::Rewrites { clauses, turns } => rewrite(rt, clauses, turns),
+        Command::Store { order, clauses } => rewrite(rt, order, clauses, 0),
+        Command::Rewrites { order, clauses } => rewrite(rt, order, clauses, clauses),
         Command::MapWrite(many) => print_map(rt, many),
         Command::MapRead(name) => count_repairs(rt, name),
         Command::MapCopy(name) => copy_tokens(rt, name),
@@ -65,11 +67,11 @@ fn read_instance(rt: HostRuntime, name: &str) -> Result<(), Trouble> {
     .map_err(|_| Trouble::Output)
 }
 
-fn rewrite(rt: HostRuntime, clauses: u32, turns: u32) -> Result<(), Trouble>
+fn rewrite(rt: HostRuntime, order: Order, clauses: u32, turns: u32) -> Result<(), Trouble>
     requires few { clauses ≤ 30000000 }
     requires turns { turns ≤ clauses }
 {
-    let tally = rewritten(rt.alloc(), clauses, turns)?;
+    let tally = rewritten(rt.alloc(), order, clauses, turns)?;
     println!(rt;
         "begun {} applied {} clauses {} literals {}",
         clauses, tally.applied, tally.clauses, tally.literals

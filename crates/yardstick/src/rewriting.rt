@@ -1,9 +1,9 @@
 //! A store under many small rewrites.
-ghost use Rattle.std.specs.Prelude.{◌≡◌, ◌<◌, ◌≤◌, ◌*◌, ◌++◌, IfOk, OnOk, All, Some, None, false, true, map, slice_set};
+ghost use Rattle.std.specs.Prelude.{◌≡◌, ◌<◌, ◌≤◌, ◌++◌, IfOk, OnOk, All, Some, None, false, true, length, map, slice_set};
 ghost use Rattle.mp_store.specs.Held.{is_live};
-ghost use Rattle.yardstick.specs.Drawn.{IsDrawn};
+ghost use Rattle.yardstick.specs.Drawn.{IsDrawn, variables_for};
 
-use crate::draws::Draws;
+use crate::draws::{Draws, Order, window_of};
 use mp_labels::Labelled;
 use mp_logic::{Clauses, Limits, ListOf, NoMemory};
 use mp_store::{ClauseId, Rewrite, Store};
@@ -21,18 +21,17 @@ pub struct Tally {
 const STRIDE: u64 = 2_654_435_761;
 
 /// Makes a store of drawn clauses over about a quarter as many variables, and applies a rewrite at so many of their ids.
-pub fn rewritten(alloc: Global, clauses: u32, turns: u32) -> Result<Tally, NoMemory>
+pub fn rewritten(alloc: Global, order: Order, clauses: u32, turns: u32) -> Result<Tally, NoMemory>
     requires few { clauses ≤ 30000000 }
     requires turns { turns ≤ clauses }
     ensures { IfOk result (λ tally. tally.applied ≤ turns) }
 {
-    let third = clauses / 12 + 1;
     let mut draws = Draws::new();
-    let mut store = drawn_store(alloc, &mut draws, third, clauses)?;
+    let mut store = drawn_store(alloc, &mut draws, order, clauses)?;
     let mut applied = 0;
     'turns: for turn in 0..turns {
-        let id = place_of_turn(turn, clauses);
-        if rewrite_at(alloc, &mut store, &mut draws, third, id)? {
+        let id = id_of_turn(order, turn, clauses);
+        if rewrite_at(alloc, &mut store, &mut draws, order, clauses, id)? {
             applied += 1;
         }
     }
@@ -44,28 +43,48 @@ pub fn rewritten(alloc: Global, clauses: u32, turns: u32) -> Result<Tally, NoMem
     })
 }
 
-/// A place among so many.
-fn place_of_turn(turn: u32, many: u32) -> ClauseId
-    requires { 1 ≤ many }
+/// The id of a turn, one of so many.
+fn id_of_turn(order: Order, turn: u32, many: u32) -> u32
+    requires { turn < many }
     ensures { result < many }
 {
-    (u64::from(turn) * STRIDE % u64::from(many)) as usize
+    match order {
+        Order::Near => turn,
+        Order::Far => (u64::from(turn) * STRIDE % u64::from(many)) as u32,
+    }
+}
+
+/// So many drawn clauses.
+fn drawn_clauses(
+    alloc: Global,
+    draws: &mut Draws,
+    order: Order,
+    many: u32,
+) -> Result<Clauses, NoMemory>
+    requires { many ≤ 30000000 }
+    ensures { IfOk result (All (IsDrawn (variables_for many))) }
+{
+    let mut made = ListOf::new(alloc);
+    'draws: for id in 0..many {
+        let window = window_of(order, many, id);
+        made.push(draws.clause(alloc, window)?)?;
+    }
+    Ok(made)
 }
 
 /// A store of so many drawn clauses, without costs.
-fn drawn_store(alloc: Global, draws: &mut Draws, third: u32, many: u32) -> Result<Store, NoMemory>
-    requires some { 1 ≤ third }
-    requires fits { 3 * third ≤ 16777215 }
-    ensures vars { IfOk result (λ store. store.vars ≡ 3 * third) }
+fn drawn_store(alloc: Global, draws: &mut Draws, order: Order, many: u32) -> Result<Store, NoMemory>
+    requires { many ≤ 30000000 }
+    ensures vars { IfOk result (λ store. store.vars ≡ variables_for many) }
     ensures unrefuted { IfOk result (λ store. store.refuted ≡ false) }
 {
     let state = Labelled {
-        vars: 3 * third,
-        hard: draws.clauses(alloc, third, many)?,
+        vars: 3 * (many / 12 + 1),
+        hard: drawn_clauses(alloc, draws, order, many)?,
         costs: ListOf::new(alloc),
         offset: 0,
     };
-    Store::new(alloc, &state, &Limits::program())
+    Store::from_labelled(alloc, state, &Limits::program())
 }
 
 /// Drops the clause of an id or puts a drawn one in its place, as a draw says; it answers whether the clause is live.
@@ -73,23 +92,26 @@ fn rewrite_at(
     alloc: Global,
     store: &mut Store,
     draws: &mut Draws,
-    third: u32,
-    id: ClauseId,
+    order: Order,
+    clauses: u32,
+    id: u32,
 ) -> Result<bool, NoMemory>
-    requires some { 1 ≤ third }
-    requires vars { store.old.vars ≡ 3 * third }
+    requires few { clauses ≤ 30000000 }
+    requires vars { store.old.vars ≡ variables_for clauses }
     requires unrefuted { store.old.refuted ≡ false }
-    requires fits { 3 * third ≤ 16777215 }
     ensures live { IfOk result (λ live. live ≡ is_live store.old.slots id) }
     ensures vars { OnOk result (store.new.vars ≡ store.old.vars) }
     ensures unrefuted { OnOk result (store.new.refuted ≡ false) }
 {
-    if !store.live(id) {
+    if !store.live(id as usize) {
         return Ok(false);
     }
-    let many = draws.below(2);
-    let added = draws.clauses(alloc, third, many)?;
-    change(alloc, store, id, added)?;
+    let mut added = ListOf::new(alloc);
+    if draws.below(2) == 1 {
+        let window = window_of(order, clauses, id);
+        added.push(draws.clause(alloc, window)?)?;
+    }
+    change(alloc, store, id as usize, added)?;
     Ok(true)
 }
 

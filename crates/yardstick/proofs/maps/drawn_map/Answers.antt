@@ -7,7 +7,7 @@ use Rattle.yardstick.proofs.maps.drawn_map.Goals as goal
 pub draws-preserved : goal.draws-preserved
 draws-preserved c =
     let vars = 3 * (c.args.many / 12 + 1) in
-    let own : IsProper vars c.in_ok-repair_of.field-0 = c.in_ok-repair_of.ensures vars c.in_ok-clause.ensures in
+    let own : IsProper vars c.in_ok-repair_of.field-0 = c.in_ok-repair_of.ensures vars (rw c.window_of-window.ensures at c.in_ok-clause.ensures) in
     rw c.in_ok-push.ensures.ok (record {
       proper = All-push (IsProper vars) c.draws.repairs c.in_ok-repair_of.field-0 c.draws.invariant.proper own;
       many = grind (arith, common_steps);

@@ -1,10 +1,10 @@
-use Rattle.std.proofs.Common.{◌≤◌, ◌*◌, ◌-◌, length, All}
+use Rattle.std.proofs.Common.{◌≤◌, ◌-◌, length, All}
 use Rattle.mp_logic.specs.Labelled.{IsProper}
 use Rattle.yardstick.proofs.maps.drawn_map.Given as goal
 
 abbrev pub invariant-draws : goal.invariant-draws
 invariant-draws l = record {
-  proper : All (IsProper (3 * l.third)) l.repairs;
+  proper : All (IsProper l.vars) l.repairs;
   many : length l.repairs ≤ l.many;
 }
 
