@@ -1,6 +1,6 @@
 -- Which ids a list has.
 use Rattle.std.proofs.Common.{◌≡◌, ℕ, ◌+◌, ◌<◌, ◌≤◌, Bool, true, false, cond, List, [], ◌∷◌, ◌++◌, length, get_or, drop, add-one, drop-cons, append_assoc, zero, suc, refl, sym, ◌∙◌, ap, subst, arith, inl, inr, Contains, leb}
-use Rattle.std.specs.Prelude.{Option, Some, None, ◌==◌, ◌&&◌}
+use Rattle.std.specs.Prelude.{Option, Some, None, ◌==◌}
 use Rattle.std.specs.List.{list_any}
 use Rattle.std.specs.List.Sorted.{IsStrictlyIncreasing}
 use Rattle.std.proofs.lemmas.Bool.{cases_eq, cases_lt, eqb-true, eq-eqb, ne_eqb, or_cases, or_left, or_right, and_parts, and_from, false≢true, leb-true, leb-false, cases_Bool}
@@ -10,6 +10,7 @@ use Rattle.mp_store.specs.Places.{place_of, has, is_in, no_repeats}
 use Rattle.mp_store.specs.Held.{clause_of}
 use Rattle.mp_store.specs.Occurrences.{ids_where, slot_has, ids_with, AreExactOccurrences}
 use Rattle.mp_store.specs.Gathering.{gathered}
+use Rattle.mp_store.specs.Tables.{rising_from}
 use Rattle.mp_store.proofs.Pricing.{same-place}
 
 pub both-ways : (a b : Bool) → (a ≡ true → b ≡ true) → (b ≡ true → a ≡ true) → a ≡ b
@@ -72,15 +73,10 @@ ids_where-once test i (x ∷ s) =
     let low = ids_where-low test (i + 1) s i (omega arith) in
     elim (test x) as (λ b. no_repeats (cond b (i ∷ ids_where test (i + 1) s) (ids_where test (i + 1) s)) ≡ true) [ true ↦ rw (low, rest) refl | false ↦ rest ]
 
--- numbers that rise from one on
-abbrev pub rising_from : ℕ → List ℕ → Bool
-rising_from i [] = true
-rising_from i (x ∷ xs) = leb i x && rising_from (x + 1) xs
-
 le-leb : (a b : ℕ) → a ≤ b → leb a b ≡ true
 le-leb a b h = elim (cases_Bool (leb a b)) [ inl t ↦ t | inr f ↦ absurd (omega (arith, leb-false a b f)) ]
 
-rising-more : (i j : ℕ) (xs : List ℕ) → j ≤ i → rising_from i xs ≡ true → rising_from j xs ≡ true
+pub rising-more : (i j : ℕ) (xs : List ℕ) → j ≤ i → rising_from i xs ≡ true → rising_from j xs ≡ true
 rising-more i j [] h r = refl
 rising-more i j (x ∷ xs) h r = let parts = and_parts (leb i x) (rising_from (x + 1) xs) r in and_from (leb j x) (rising_from (x + 1) xs) (le-leb j x (let a = leb-true i x parts.0 in omega arith)) parts.1
 

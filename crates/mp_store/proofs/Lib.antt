@@ -8,3 +8,4 @@ pub mod KeptFixing
 pub mod Runs
 pub mod Started
 pub mod FirstLists
+pub mod Unlinked

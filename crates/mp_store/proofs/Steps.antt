@@ -1,5 +1,5 @@
 -- Steps on the rows and the lists of ids.
-use Rattle.std.proofs.Common.{◌≡◌, ◌⊎◌, ℕ, ◌+◌, ◌<◌, ◌≤◌, Bool, true, false, not, cond, List, [], ◌∷◌, ◌++◌, length, get_or, set, take, drop, add-one, drop-cons, zero, suc, refl, sym, subst, ◌∙◌, ap, arith, replicate, inl, inr}
+use Rattle.std.proofs.Common.{◌≡◌, ◌⊎◌, ℕ, ◌+◌, ◌<◌, ◌≤◌, Bool, true, false, cond, List, [], ◌∷◌, ◌++◌, length, get_or, set, take, drop, add-one, drop-cons, zero, suc, refl, sym, subst, ◌∙◌, ap, arith, replicate, inl, inr}
 use Rattle.std.specs.Prelude.{Option, Some, None, All, ◌==◌, ◌||◌, ◌&&◌, map}
 use Rattle.std.specs.List.{filter}
 use Rattle.std.proofs.lemmas.Grind.{common_steps}
@@ -14,7 +14,7 @@ use Rattle.mp_store.specs.Places.{place_of, has}
 use Rattle.mp_store.specs.Held.{live_clauses}
 use Rattle.mp_store.specs.Occurrences.{ids_where, slot_has}
 use Rattle.mp_store.specs.Rewriting.{cleared}
-use Rattle.mp_store.specs.Tables.{Room, apart, ids_from, at, spare_at, room_at, row_at, clause_at, live_in, killed, dead, touched, alive, slot_of, slots_of, blank, marked, AreWithin, AreMatched, IsClauseTable, IsSize, literals_of, spares_of}
+use Rattle.mp_store.specs.Tables.{Room, apart, ids_from, at, spare_at, room_at, row_at, clause_at, live_in, killed, dead, touched, alive, slot_of, slots_of, blank, marked, AreWithin, IsClauseTable, IsSize, literals_of, spares_of}
 
 pub get_or-any : {A : Type 0} (xs : List A) (k : ℕ) (d e : A) → k < length xs → get_or xs k d ≡ get_or xs k e
 get_or-any [] k d e h = absurd (omega arith)
@@ -156,26 +156,6 @@ alive-within n (c ∷ cs) [] w a (suc k) = alive-within n cs [] w (λ j d h. a (
 alive-within n cs (x ∷ xs) w a zero = w 0
 alive-within n cs (x ∷ xs) w a (suc k) = alive-within n cs xs (λ j. w (suc j)) a k
 
--- the lists after a rewrite
-pub applied-matches : (gone : List ℕ) (added : List (List Literal)) (rows : List Row) (old new : List Room) (sw : ℕ → List ℕ) →
-    AreMatched rows old → length new ≡ length old → All (AreWithin (length old)) added →
-    ((p : ℕ) → sw p ≡ cond (touched p gone rows) (filter (live_in (killed gone rows)) (at old p)) (at old p)) →
-    ((p : ℕ) → at new p ≡ sw p ++ ids_from p (length rows) (map alive added)) →
-    AreMatched (killed gone rows ++ map alive added) new
-applied-matches gone added rows old new sw m e w s n =
-    let t = killed-thinned gone rows in record {
-      each = λ p.
-          let was : at old p ≡ ids_from p 0 rows = m.each p in
-          let thin : ids_from p 0 (killed gone rows) ≡ filter (live_in (killed gone rows)) (ids_from p 0 rows) = ids_from-thinned p 0 rows (killed gone rows) (live_in (killed gone rows)) t (λ k l. let z : 0 + k ≡ k = omega arith in ap (live_in (killed gone rows)) z) in
-          let still : touched p gone rows ≡ false → ids_from p 0 (killed gone rows) ≡ ids_from p 0 rows = ids_from-untouched p gone rows in
-          let made = ids_from-append p 0 (killed gone rows) (map alive added) in
-          let l = t.len in
-          let len : length rows ≡ 0 + length (killed gone rows) = omega arith in
-          let swept : sw p ≡ ids_from p 0 (killed gone rows) = grind (arith, common_steps, s p) in
-          n p ∙ (ap (λ z. z ++ ids_from p (length rows) (map alive added)) swept ∙ (ap (λ z. ids_from p 0 (killed gone rows) ++ ids_from p z (map alive added)) len ∙ sym made));
-      within = rw e (alive-within (length old) added (killed gone rows) (λ k. rw (t.same k) (m.within k)) w);
-    }
-
 pub killed-length : (gone : List ℕ) (rows : List Row) → length (killed gone rows) ≡ length rows
 killed-length gone rows = (killed-thinned gone rows).len
 
@@ -305,33 +285,32 @@ live_le (None ∷ s) = omega (arith, live_le s)
 live_le (Some c ∷ s) = omega (arith, live_le s)
 
 -- the tables after clauses were put in place of others
-pub replaced-table : (gone : List ℕ) (added : List (List Literal)) (rows thin buried new : List Row) (old swept lists : List Room) (marks marks1 marks2 : List Bool) (size size1 size2 : Size) →
+pub replaced-table : (gone : List ℕ) (added : List (List Literal)) (rows thin buried new : List Row) (old left lists : List Room) (marks marks1 : List Bool) (size size1 size2 : Size) →
     IsClauseTable rows old marks size → All (AreWithin (length old)) added →
-    length marks1 ≡ length marks → ((p : ℕ) → marked marks1 p ≡ (marked marks p || touched p gone rows)) →
     thin ≡ killed gone rows → IsSize size1 (slots_of thin) →
-    length swept ≡ length old → length marks2 ≡ length marks1 →
-    ((p : ℕ) → marked marks2 p ≡ (marked marks1 p && not (touched p gone thin))) →
-    ((p : ℕ) → at swept p ≡ cond (marked marks1 p && touched p gone thin) (filter (live_in thin) (at old p)) (at old p)) →
+    length left ≡ length old → length marks1 ≡ length marks → ((p : ℕ) → marked marks1 p ≡ false) →
+    ((p : ℕ) → at left p ≡ ids_from p 0 thin) →
     Buried thin buried →
-    length lists ≡ length swept → ((p : ℕ) → at lists p ≡ at swept p ++ ids_from p (length rows) (map alive added)) →
+    length lists ≡ length left → ((p : ℕ) → at lists p ≡ at left p ++ ids_from p (length rows) (map alive added)) →
     new ≡ buried ++ map alive added →
     size2.clauses ≡ size1.clauses + length added → size2.literals ≡ size1.literals + literals_of added →
-    IsClauseTable new lists marks2 size2
-replaced-table gone added rows thin buried new old swept lists marks marks1 marks2 size size1 size2 s w ml mm k z sl ml2 mm2 si b ll li nn zc zl =
-    let same : (p : ℕ) → touched p gone thin ≡ touched p gone rows = λ p. rw k (touched-thinned p gone rows (killed gone rows) (killed-thinned gone rows)) in
-    let first : (p : ℕ) → marked marks p ≡ false = s.unmarked in
-    let matched : AreMatched (thin ++ map alive added) lists = rw k (applied-matches gone added rows old lists (λ p. at swept p) s.matched (ll ∙ sl) w (λ p. let m = mm p in let f = first p in let e = same p in let q = si p in rw (← k) (grind (arith, common_steps))) li) in
+    IsClauseTable new lists marks1 size2
+replaced-table gone added rows thin buried new old left lists marks marks1 size size1 size2 s w k z ll ml mm left_ids b li ids nn zc zl =
+    let t = killed-thinned gone rows in
+    let same_length = t.len in
+    let length_thin = ap length k in
+    let first : length rows ≡ 0 + length buried = let e = b.len in omega arith in
     let slots : slots_of new ≡ slots_of thin ++ map Some added = rw nn (slots-append buried (map alive added) ∙ (ap (λ x. x ++ slots_of (map alive added)) (buried-slots thin buried b) ∙ ap (λ x. slots_of thin ++ x) (slots-alive added))) in
     let live : live_clauses (slots_of new) ≡ live_clauses (slots_of thin) ++ added = ap live_clauses slots ∙ (live_clauses-append (slots_of thin) (map Some added) ∙ ap (λ x. live_clauses (slots_of thin) ++ x) (live_clauses-some added)) in
     record {
       matched = record {
-        each = λ p. matched.each p ∙ (ids_from-append p 0 thin (map alive added) ∙ (
-            let e : length thin ≡ length buried = sym b.len in
-            rw (nn, e) (sym (ids_from-append p 0 buried (map alive added) ∙ ap (λ x. x ++ ids_from p (0 + length buried) (map alive added)) (buried-ids p thin buried b)))));
-        within = rw (nn, ll, sl) (alive-within (length old) added buried (buried-within (length old) thin buried b (λ j. rw (k, (killed-thinned gone rows).same j) (s.matched.within j))) w);
+        each = λ p.
+            let new_ids : ids_from p 0 new ≡ ids_from p 0 thin ++ ids_from p (length rows) (map alive added) = ap (ids_from p 0) nn ∙ (ids_from-append p 0 buried (map alive added) ∙ (ap (λ x. x ++ ids_from p (0 + length buried) (map alive added)) (buried-ids p thin buried b) ∙ ap (λ x. ids_from p 0 thin ++ ids_from p x (map alive added)) (sym first))) in
+            ids p ∙ (ap (λ x. x ++ ids_from p (length rows) (map alive added)) (left_ids p) ∙ sym new_ids);
+        within = rw (nn, li, ll) (alive-within (length old) added buried (buried-within (length old) thin buried b (λ j. rw (k, t.same j) (s.matched.within j))) w);
       };
       marks_len = let e = s.marks_len in omega arith;
-      unmarked = λ p. let m = mm p in let f = first p in let e = same p in let q = mm2 p in grind (arith, common_steps);
+      unmarked = mm;
       sized = record {
         clauses = rw (live, length-append (live_clauses (slots_of thin)) added) (omega (arith, z.clauses));
         literals = rw live (omega (arith, z.literals, sum_by-append length (live_clauses (slots_of thin)) added));

@@ -1,6 +1,7 @@
 -- Inside the store: only contracts of private functions cite these.
-use Rattle.std.specs.Prelude.{◌≡◌, ℕ, ◌+◌, ◌^◌, ◌<◌, ◌≤◌, Bool, true, false, not, cond, ◌&&◌, List, [], ◌∷◌, length, map, Option, Some, None, All, slice_index, slice_index_or, slice_set, sum_by}
-use Rattle.std.specs.List.{list_any}
+use Rattle.std.specs.Prelude.{◌≡◌, ◌==◌, ℕ, ◌+◌, ◌^◌, ◌<◌, ◌≤◌, Bool, true, false, not, cond, ◌&&◌, List, [], ◌∷◌, length, map, Option, Some, None, All, slice_index, slice_index_or, slice_set, sum_by}
+use Rattle.std.specs.List.{list_any, filter}
+use lib.Dec.{leb}
 use Rattle.mp_logic.specs.Literal.{Literal}
 use Rattle.mp_store.specs.declared.rows.Row.{Row}
 use Rattle.mp_store.specs.declared.rows.Size.{Size}
@@ -23,6 +24,14 @@ pub record Catalog : Type 0 where
 pub record Prices : Type 0 where
   pub weights : List ℕ
   pub free : ℕ
+
+-- numbers that rise strictly, from one on
+abbrev pub rising_from : ℕ → List ℕ → Bool
+rising_from i [] = true
+rising_from i (x ∷ xs) = leb i x && rising_from (x + 1) xs
+
+abbrev pub without_id : ℕ → List ℕ → List ℕ
+without_id id ids = filter (λ x. not (x == id)) ids
 
 -- no two literals have one place
 abbrev pub apart : List Literal → Bool

@@ -99,9 +99,8 @@ impl ClauseTable {
         ensures len { length self.new.free ≡ length self.old.free }
     {
         let first = self.rows.len();
-        rows::mark_all(&self.rows, &mut self.marks, gone);
         rows::kill(&mut self.rows, &mut self.size, gone);
-        links::sweep_all(&mut self.lists, &mut self.marks, &self.rows, gone);
+        links::unlink_all(&mut self.lists, &mut self.marks, &self.rows, gone);
         rows::bury(self.alloc, &mut self.rows, gone);
         links::link_all(&mut self.lists, added.items(), first);
         self.size.clauses += added.len() as u64;

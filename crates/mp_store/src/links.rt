@@ -1,12 +1,13 @@
-ghost use Rattle.std.specs.Prelude.{◌≡◌, ◌+◌, ◌^◌, ◌<◌, ◌≤◌, ◌-◌, ◌++◌, ◌∷◌, [], ◌&&◌, ◌||◌, not, cond, OnOk, OnErr, All, length, true, ℕ, map};
+ghost use Rattle.std.specs.Prelude.{◌≡◌, ◌+◌, ◌^◌, ◌<◌, ◌≤◌, ◌-◌, ◌++◌, ◌∷◌, [], List, ◌&&◌, ◌||◌, not, cond, OnOk, OnErr, All, length, true, false, ℕ, map};
 ghost use Rattle.std.specs.List.{filter, list_any};
 ghost use Rattle.mp_store.specs.Places.{place_of, has};
-ghost use Rattle.mp_store.specs.Tables.{apart, live_in, clause_at, touched, marked, at, room_at, spare_at, uses, ids_from, alive, AreWithin};
+ghost use Rattle.mp_store.specs.Tables.{apart, live_in, clause_at, touched, marked, at, room_at, spare_at, uses, ids_from, alive, AreWithin, killed, rising_from, without_id};
+ghost use Rattle.mp_store.specs.declared.rows.Row.{Row};
 
 use crate::occurrences::Occurrences;
 use crate::places::place;
 use crate::rewrite::ClauseId;
-use crate::rows::Row;
+use crate::rows::{Row, mark_all};
 use mp_logic::{Clause, Lit};
 use std::alloc::{AllocError, Global};
 
@@ -105,12 +106,8 @@ fn sweep(lists: &mut Vec<Occurrences>, marks: &mut Vec<bool>, rows: &[Row], clau
     }
 }
 
-pub fn sweep_all(
-    lists: &mut Vec<Occurrences>,
-    marks: &mut Vec<bool>,
-    rows: &[Row],
-    gone: &[ClauseId],
-)
+/// Filters the lists of the literals of the clauses, each list once.
+fn sweep_all(lists: &mut Vec<Occurrences>, marks: &mut Vec<bool>, rows: &[Row], gone: &[ClauseId])
     requires known { All (λ id. id < length rows.now) gone.now }
     requires within { (k : ℕ) → AreWithin (length lists.old.items) (clause_at rows.now k) }
     requires marks { length lists.old.items ≤ length marks.old.items }
@@ -123,6 +120,48 @@ pub fn sweep_all(
     for id in gone {
         sweep(lists, marks, rows, rows[*id].clause.items());
     }
+}
+
+/// Takes the id out of the list of each literal.
+fn unlink(lists: &mut Vec<Occurrences>, clause: &[Lit], id: ClauseId)
+    requires within { AreWithin (length lists.old.items) clause.now }
+    requires rising { (p : ℕ) → rising_from 0 (at lists.old.items p) ≡ true }
+    ensures len { length lists.new.items ≡ length lists.old.items }
+    ensures items { (p : ℕ) → at lists.new.items p ≡ cond (has p clause.now) (without_id id (at lists.old.items p)) (at lists.old.items p) }
+    ensures spare { (p : ℕ) → spare_at lists.new.items p ≡ spare_at lists.old.items p }
+{
+    for lit in clause {
+        let list = &mut lists[place(*lit)];
+        list.take_out(id);
+    }
+}
+
+/// Takes the ids of clauses that are dead now out of the lists. One id is found by halves in each list, which visits no
+/// other clause; for more of them each list that has some is gone through once.
+pub fn unlink_all(
+    lists: &mut Vec<Occurrences>,
+    marks: &mut Vec<bool>,
+    rows: &[Row],
+    gone: &[ClauseId],
+)
+    requires known { All (λ id. id < length rows.now) gone.now }
+    requires within { (k : ℕ) → AreWithin (length lists.old.items) (clause_at rows.now k) }
+    requires marks { length lists.old.items ≤ length marks.old.items }
+    requires unmarked { (p : ℕ) → marked marks.old.items p ≡ false }
+    requires rising { (p : ℕ) → rising_from 0 (at lists.old.items p) ≡ true }
+    ensures len { length lists.new.items ≡ length lists.old.items }
+    ensures marks_len { length marks.new.items ≡ length marks.old.items }
+    ensures unmarked { (p : ℕ) → marked marks.new.items p ≡ false }
+    ensures items { (before : List Row) → rows.now ≡ killed gone.now before → ((p : ℕ) → at lists.old.items p ≡ ids_from p 0 before) → (p : ℕ) → at lists.new.items p ≡ ids_from p 0 rows.now }
+    ensures spare { (p : ℕ) → spare_at lists.new.items p ≡ spare_at lists.old.items p }
+{
+    if gone.len() == 1 {
+        let id = gone[0];
+        unlink(lists, rows[id].clause.items(), id);
+        return;
+    }
+    mark_all(rows, marks, gone);
+    sweep_all(lists, marks, rows, gone);
 }
 
 /// Puts the id last in the list of each literal.

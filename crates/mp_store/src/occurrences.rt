@@ -1,6 +1,6 @@
-ghost use Rattle.std.specs.Prelude.{◌≡◌, ◌+◌, ◌<◌, ◌++◌, [], ◌∷◌, OnOk, OnErr};
+ghost use Rattle.std.specs.Prelude.{◌≡◌, ◌+◌, ◌<◌, ◌++◌, [], ◌∷◌, OnOk, OnErr, true};
 ghost use Rattle.std.specs.List.{filter};
-ghost use Rattle.mp_store.specs.Tables.{live_in};
+ghost use Rattle.mp_store.specs.Tables.{live_in, rising_from, without_id};
 
 use crate::rewrite::ClauseId;
 use crate::rows::{Row, is_live};
@@ -83,6 +83,17 @@ impl Occurrences {
         ensures spare { self.new.spare ≡ self.old.spare }
     {
         self.items.clear();
+    }
+
+    /// Takes an id out. The ids rise, so it is found by halves.
+    pub fn take_out(&mut self, id: ClauseId)
+        requires { rising_from 0 self.old.items ≡ true }
+        ensures items { self.new.items ≡ without_id id self.old.items }
+        ensures spare { self.new.spare ≡ self.old.spare }
+    {
+        if let Ok(place) = self.items.binary_search(&id) {
+            self.items.remove(place);
+        }
     }
 
     pub fn keep_live(&mut self, rows: &[Row])

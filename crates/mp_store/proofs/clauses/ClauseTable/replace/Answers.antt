@@ -1,16 +1,17 @@
 use Rattle.std.proofs.Common.{arith, ◌∙◌, ◌≡◌, ap, length, refl}
 use Rattle.std.proofs.lemmas.List.{length-map}
-use Rattle.mp_store.specs.Tables.{slots_of}
+use Rattle.mp_store.specs.Tables.{slots_of, rising_from}
 use Rattle.mp_store.proofs.Steps.{Buried, killed-length, known-after, within-after, replaced-table, replaced-slots, live_le}
+use Rattle.mp_store.proofs.Unlinked.{ids_from-rising}
 use Rattle.mp_store.proofs.clauses.ClauseTable.replace.Goals as goal
 
-pub sweep_all-requires-clause-known : goal.sweep_all-requires-clause-known
-sweep_all-requires-clause-known c =
+pub unlink_all-requires-clause-known : goal.unlink_all-requires-clause-known
+unlink_all-requires-clause-known c =
     let known = simp length-map at (rw (← c.self.view_is) at c.requires.known) in
-    known-after _ _ _ _ known refl (c.deref-2.ensures.value ∙ c.kill.ensures.rows)
+    known-after _ _ _ _ known refl (c.deref.ensures.value ∙ c.kill.ensures.rows)
 
-pub sweep_all-requires-clause-within : goal.sweep_all-requires-clause-within
-sweep_all-requires-clause-within c = within-after _ c.args.gone.now _ _ c.self.invariant.matched.within (c.deref-2.ensures.value ∙ c.kill.ensures.rows)
+pub unlink_all-requires-clause-within : goal.unlink_all-requires-clause-within
+unlink_all-requires-clause-within c = within-after _ c.args.gone.now _ _ c.self.invariant.matched.within (c.deref.ensures.value ∙ c.kill.ensures.rows)
 
 pub bury-requires : goal.bury-requires
 bury-requires c =
@@ -39,13 +40,15 @@ move_in-requires c =
 
 pub invariant_of-self : goal.invariant_of-self
 invariant_of-self c =
-    let marks = rw c.deref.ensures.value at c.mark_all.ensures.marks in
-    let swept_marks = rw c.deref-2.ensures.value at c.sweep_all.ensures.marks in
-    let swept = rw c.deref-2.ensures.value at c.sweep_all.ensures.items in
     let first : c.len-first.result ≡ length c.self.inside.rows.items = omega (arith, c.self.inside.rows.ok) in
     let linked = rw (c.items.ensures, first) at c.link_all.ensures.items in
     let buried : Buried c.kill.new.rows.items c.bury.new.rows.items = record { len = omega (arith, c.bury.ensures.len, c.kill.new.rows.ok, c.bury.new.rows.ok); live = c.bury.ensures.live; clauses = c.bury.ensures.clauses } in
-    replaced-table c.args.gone.now _ _ _ _ _ _ _ _ _ _ _ _ _ _ c.self.invariant (simp length-map at (rw (← c.self.view_is) at c.requires.within)) c.mark_all.ensures.len marks c.kill.ensures.rows c.kill.ensures.sized c.sweep_all.ensures.len c.sweep_all.ensures.marks_len swept_marks swept buried c.link_all.ensures.len linked c.move_in.ensures (omega (arith, c.len.ensures)) (omega (arith, rw c.items-2.ensures at c.literals.ensures))
+    let left = c.unlink_all.ensures.items c.self.inside.rows.items (c.deref.ensures.value ∙ c.kill.ensures.rows) c.self.invariant.matched.each in
+    let left_ids = rw c.deref.ensures.value at left in
+    replaced-table c.args.gone.now _ _ _ _ _ _ _ _ _ _ _ _ _ c.self.invariant (simp length-map at (rw (← c.self.view_is) at c.requires.within)) c.kill.ensures.rows c.kill.ensures.sized c.unlink_all.ensures.len c.unlink_all.ensures.marks_len c.unlink_all.ensures.unmarked left_ids buried c.link_all.ensures.len linked c.move_in.ensures (omega (arith, c.len.ensures)) (omega (arith, rw c.items-2.ensures at c.literals.ensures))
+
+pub unlink_all-requires-clause-rising : goal.unlink_all-requires-clause-rising
+unlink_all-requires-clause-rising c = λ p. ap (rising_from 0) (c.self.invariant.matched.each p) ∙ ids_from-rising p 0 c.self.inside.rows.items
 
 pub returns-clause-slots : goal.returns-clause-slots
 returns-clause-slots c =
