@@ -9,3 +9,4 @@ pub mod Runs
 pub mod Started
 pub mod FirstLists
 pub mod Unlinked
+pub mod ArenaPlaces

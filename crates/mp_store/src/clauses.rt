@@ -4,9 +4,10 @@ ghost use Rattle.mp_store.specs.Occurrences.{ids_with};
 ghost use Rattle.mp_store.specs.Rewriting.{cleared};
 ghost use Rattle.mp_store.specs.Tables.{apart, literals_of, AreWithin, HasRoom};
 
+use crate::arena::Arena;
 use crate::occurrences::Occurrences;
 use crate::rewrite::ClauseId;
-use crate::rows::{self, Row, Size};
+use crate::rows::{self, Size};
 use crate::{first_table, links};
 use mp_logic::{Clause, Clauses, ListOf, Lit, NoMemory};
 use std::alloc::Global;
@@ -15,7 +16,7 @@ use std::marker::Model;
 /// Clauses by id, with the ids by literal.
 #[derive(Drop)]
 pub struct ClauseTable {
-    rows: Vec<Row>,
+    rows: Arena,
     lists: Vec<Occurrences>,
     marks: Vec<bool>,
     size: Size,
@@ -23,14 +24,20 @@ pub struct ClauseTable {
 }
 
 impl Model for ClauseTable {
-    ghost use Rattle.std.specs.Prelude.{map, vec_len, vec_capacity, ◌-◌};
     ghost use Rattle.mp_store.specs.Tables.{Catalog, IsClauseTable, slots_of, spares_of};
 
     ghost Value = { Catalog };
 
-    ghost view = { λ t. record { slots = slots_of t.rows.items; free = spares_of t.lists.items; free_rows = vec_capacity t.rows - vec_len t.rows; literals = t.size.literals } };
+    ghost view = { λ t. record { slots = slots_of t.rows.rows; free = spares_of t.lists.items; free_rows = t.rows.free; free_literals = t.rows.room; literals = t.size.literals } };
 
-    ghost invariant = { λ t. IsClauseTable t.rows.items t.lists.items t.marks.items t.size };
+    ghost invariant = { λ t. IsClauseTable t.rows.rows t.lists.items t.marks.items t.size };
+}
+
+/// A clause of these literals.
+fn copied(alloc: Global, literals: &[Lit]) -> Result<Clause, NoMemory>
+    ensures { IfOk result (λ made. made ≡ literals.now) }
+{
+    Ok(ListOf::from_vec(Vec::from_slice(alloc, literals)?))
 }
 
 impl ClauseTable {
@@ -41,7 +48,7 @@ impl ClauseTable {
         ensures slots { IfOk result (λ made. made.slots ≡ map Some clauses) }
         ensures len { IfOk result (λ made. length made.free ≡ places) }
     {
-        if !rows::are_countable(0, clauses.items()) {
+        if !rows::are_countable(0, clauses.items()) || !rows::are_short(clauses.items()) {
             return Err(NoMemory);
         }
         let lists = first_table::lists_of(alloc, places, clauses.items())?;
@@ -51,7 +58,7 @@ impl ClauseTable {
             clauses: clauses.len() as u64,
             literals: rows::literals(clauses.items()),
         };
-        let mut rows = Vec::with_capacity(alloc, clauses.len())?;
+        let mut rows = Arena::with_room(alloc, clauses.len(), size.literals as usize)?;
         rows::move_in(&mut rows, clauses);
         Ok(ClauseTable {
             rows,
@@ -80,12 +87,32 @@ impl ClauseTable {
         ensures len { length self.new.free ≡ length self.old.free }
         ensures ok { OnOk result (HasRoom added.now self.new) }
     {
-        if !rows::are_countable(self.size.literals, added) {
+        if !rows::are_countable(self.size.literals, added) || !rows::are_short(added) {
             return Err(NoMemory);
         }
-        self.rows.reserve(added.len())?;
+        if self.is_sparse() {
+            self.compact()?;
+        }
+        self.rows.reserve(added.len(), rows::literals(added) as usize)?;
         links::release_all(&mut self.lists, added);
         links::reserve_all(&mut self.lists, added)?;
+        Ok(())
+    }
+
+    /// Whether more literals are dead than a new arena costs, which is as much as there are live literals and ids.
+    fn is_sparse(&self) -> bool {
+        let live = (self.size.literals as usize).saturating_add(self.rows.len());
+        self.rows.literals().saturating_sub(self.size.literals as usize) > live
+    }
+
+    /// Frees the literals of dead clauses. A refusal changes nothing.
+    fn compact(&mut self) -> Result<(), NoMemory>
+        ensures slots { self.new.slots ≡ self.old.slots }
+        ensures free { self.new.free ≡ self.old.free }
+        ensures literals { self.new.literals ≡ self.old.literals }
+    {
+        let rows = self.rows.compacted(self.alloc, self.size.literals as usize)?;
+        self.rows = rows;
         Ok(())
     }
 
@@ -101,7 +128,6 @@ impl ClauseTable {
         let first = self.rows.len();
         rows::kill(&mut self.rows, &mut self.size, gone);
         links::unlink_all(&mut self.lists, &mut self.marks, &self.rows, gone);
-        rows::bury(self.alloc, &mut self.rows, gone);
         links::link_all(&mut self.lists, added.items(), first);
         self.size.clauses += added.len() as u64;
         self.size.literals += rows::literals(added.items());
@@ -115,10 +141,7 @@ impl ClauseTable {
         ensures len { length self.new.free ≡ length self.old.free }
     {
         rows::kill_every(&mut self.rows);
-        self.rows.push_reserved(Row {
-            clause: ListOf::new(self.alloc),
-            live: true,
-        });
+        self.rows.push(&[]);
         links::clear_every(&mut self.lists);
         self.size = Size {
             clauses: 1,
@@ -129,7 +152,7 @@ impl ClauseTable {
     pub fn live(&self, id: ClauseId) -> bool
         ensures { result ≡ is_live self.now.slots id }
     {
-        rows::is_live(&self.rows, id)
+        self.rows.is_live(id)
     }
 
     /// How many ids there are so far.
@@ -143,7 +166,7 @@ impl ClauseTable {
         requires { is_live self.now.slots id ≡ true }
         ensures { Some result.now ≡ clause_of self.now.slots id }
     {
-        self.rows[id].clause.items()
+        self.rows.clause(id)
     }
 
     /// The ids of the live clauses with the literal of a place, rising.
@@ -166,9 +189,9 @@ impl ClauseTable {
         ensures { IfOk result (λ made. made ≡ live_clauses self.now.slots) }
     {
         let mut made = ListOf::new(alloc);
-        for row in &self.rows {
-            if row.live {
-                made.push(row.clause.copy(alloc)?)?;
+        for id in 0..self.rows.len() {
+            if self.rows.is_live(id) {
+                made.push(copied(alloc, self.rows.clause(id))?)?;
             }
         }
         Ok(made)
@@ -181,9 +204,9 @@ impl ClauseTable {
         let ClauseTable { rows, lists, .. } = self;
         drop(lists);
         let mut made = ListOf::new(alloc);
-        for row in rows {
-            if row.live {
-                made.push(row.clause)?;
+        for id in 0..rows.len() {
+            if rows.is_live(id) {
+                made.push(copied(alloc, rows.clause(id))?)?;
             }
         }
         Ok(made)

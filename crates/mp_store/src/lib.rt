@@ -7,6 +7,7 @@
 //! `specs/Measures`). A store is seen as `Held` of `specs/Held`. It stands on `mp_logic` and `mp_labels`.
 #![tactic(auto)]
 
+mod arena;
 mod buckets;
 mod clauses;
 mod costs;
