@@ -51,15 +51,15 @@ impl ClauseTable {
         if !rows::are_countable(0, clauses.items()) || !rows::are_short(clauses.items()) {
             return Err(NoMemory);
         }
-        let lists = first_table::lists_of(alloc, places, clauses.items())?;
-        let mut marks = Vec::with_capacity(alloc, places)?;
-        links::widen_marks(&mut marks, places)?;
         let size = Size {
             clauses: clauses.len() as u64,
             literals: rows::literals(clauses.items()),
         };
         let mut rows = Arena::with_room(alloc, clauses.len(), size.literals as usize)?;
         rows::move_in(&mut rows, clauses);
+        let lists = first_table::lists_of(alloc, places, &rows)?;
+        let mut marks = Vec::with_capacity(alloc, places)?;
+        links::widen_marks(&mut marks, places)?;
         Ok(ClauseTable {
             rows,
             lists,
@@ -93,7 +93,8 @@ impl ClauseTable {
         if self.is_sparse() {
             self.compact()?;
         }
-        self.rows.reserve(added.len(), rows::literals(added) as usize)?;
+        self.rows
+            .reserve(added.len(), rows::literals(added) as usize)?;
         links::release_all(&mut self.lists, added);
         links::reserve_all(&mut self.lists, added)?;
         Ok(())
@@ -102,7 +103,10 @@ impl ClauseTable {
     /// Whether more literals are dead than a new arena costs, which is as much as there are live literals and ids.
     fn is_sparse(&self) -> bool {
         let live = (self.size.literals as usize).saturating_add(self.rows.len());
-        self.rows.literals().saturating_sub(self.size.literals as usize) > live
+        self.rows
+            .literals()
+            .saturating_sub(self.size.literals as usize)
+            > live
     }
 
     /// Frees the literals of dead clauses. A refusal changes nothing.
@@ -111,7 +115,9 @@ impl ClauseTable {
         ensures free { self.new.free ≡ self.old.free }
         ensures literals { self.new.literals ≡ self.old.literals }
     {
-        let rows = self.rows.compacted(self.alloc, self.size.literals as usize)?;
+        let rows = self
+            .rows
+            .compacted(self.alloc, self.size.literals as usize)?;
         self.rows = rows;
         Ok(())
     }
@@ -201,9 +207,14 @@ impl ClauseTable {
     pub fn into_live(self, alloc: Global) -> Result<Clauses, NoMemory>
         ensures { IfOk result (λ made. made ≡ live_clauses self.slots) }
     {
-        let ClauseTable { rows, lists, .. } = self;
+        let ClauseTable {
+            rows,
+            lists,
+            size,
+            ..
+        } = self;
         drop(lists);
-        let mut made = ListOf::new(alloc);
+        let mut made = ListOf::from_vec(Vec::with_capacity(alloc, size.clauses as usize)?);
         for id in 0..rows.len() {
             if rows.is_live(id) {
                 made.push(copied(alloc, rows.clause(id))?)?;
