@@ -28,16 +28,17 @@ fn view_of(alloc: Global, text: &[u8]) -> Option<Labelled> {
     }
 }
 
-/// The store of a text.
-pub fn store_of(alloc: Global, text: &[u8]) -> Result<Option<Store>, NoMemory> {
-    let Some(view) = view_of(alloc, text) else {
-        return Ok(None);
-    };
+/// The store of a text, or None where the text has none.
+pub fn store_of(alloc: Global, text: &[u8]) -> Option<Store> {
+    let view = view_of(alloc, text)?;
     let limits = Limits::program();
     if view.vars > limits.inner {
-        return Ok(None);
+        return None;
     }
-    Ok(Some(Store::new(alloc, &view, &limits)?))
+    match Store::new(alloc, &view, &limits) {
+        Ok(store) => Some(store),
+        Err(_) => None,
+    }
 }
 
 /// Fixes a literal where the store can take it.
@@ -54,7 +55,7 @@ pub fn fix(alloc: Global, store: &mut Store, lit: Lit) -> Result<bool, NoMemory>
 }
 
 /// What is seen of a store.
-#[derive(Clone, Copy, Debug, PartialEq, Eq)]
+#[derive(Clone, Copy, PartialEq, Eq)]
 pub struct Seen {
     pub clauses: u64,
     pub literals: u64,

@@ -1,69 +1,71 @@
 //! A store through a few rewrites, by hand.
 
 use crate::instances::{BEGUN, CHAIN, FIXED, HALF, REFUTED, Seen, fix, look_at, store_of};
-use mp_logic::{Limits, Lit, NoMemory};
+use mp_labels::Labelled;
+use mp_logic::{Limits, Lit};
 use mp_store::{Store, fixing_keeps_store, refuting_keeps, starting_keeps};
 use std::alloc::Global;
-use std::test::Fail;
 
-/// What is seen of a text's store after each literal in turn.
-fn after_fixing(alloc: Global, text: &[u8], lits: &[Lit]) -> Result<Option<Seen>, NoMemory> {
-    let Some(mut store) = store_of(alloc, text)? else {
-        return Ok(None);
+/// Whether the chain's store, after each literal in turn, shows this, and hands it on.
+fn is_left(alloc: Global, lits: &[Lit], want: Seen) -> bool {
+    let Some(mut store) = store_of(alloc, CHAIN) else {
+        return false;
     };
-    for lit in lits {
-        fix(alloc, &mut store, *lit)?;
-    }
-    let state = store.labelled(alloc)?;
-    if state.offset != store.offset() || state.vars != store.vars() {
-        return Ok(None);
-    }
-    let seen = look_at(&store);
-    if handed_on(alloc, store)? != Some(handed(seen)) {
-        return Ok(None);
-    }
-    Ok(Some(seen))
+    shows(alloc, &mut store, lits, want) && hands_on(alloc, store, want)
 }
 
-/// What is seen of the store of the labelled state that a store hands on, with the number of its repairs.
-fn handed_on(alloc: Global, store: Store) -> Result<Option<Seen>, NoMemory> {
-    let (state, repairs) = store.into_labelled(alloc)?;
+/// Whether a store shows this after each literal in turn, and its labelled state with it.
+fn shows(alloc: Global, store: &mut Store, lits: &[Lit], want: Seen) -> bool {
+    for lit in lits {
+        if fix(alloc, store, *lit).is_err() {
+            return false;
+        }
+    }
+    let is_alike = match store.labelled(alloc) {
+        Ok(state) => state.offset == store.offset() && state.vars == store.vars(),
+        Err(_) => false,
+    };
+    is_alike && look_at(store) == want
+}
+
+/// Whether this is seen of the store of the labelled state that a store hands on, with the number of its repairs.
+fn hands_on(alloc: Global, store: Store, want: Seen) -> bool {
+    match store.into_labelled(alloc) {
+        Ok((state, repairs)) => repairs.len() == want.repairs && begins(alloc, state, want),
+        Err(_) => false,
+    }
+}
+
+/// Whether the store of a labelled state shows the same, where there are no repairs and the ids begin at 0 again.
+fn begins(alloc: Global, state: Labelled, want: Seen) -> bool {
     let limits = Limits::program();
     if state.vars > limits.inner {
-        return Ok(None);
+        return false;
     }
-    let again = Store::from_labelled(alloc, state, &limits)?;
-    Ok(Some(Seen {
-        repairs: repairs.len(),
-        ..look_at(&again)
-    }))
+    match Store::from_labelled(alloc, state, &limits) {
+        Ok(store) => look_at(&store) == begun_anew(want),
+        Err(_) => false,
+    }
 }
 
-/// The same, where the ids begin at 0 again.
-fn handed(seen: Seen) -> Seen {
+fn begun_anew(seen: Seen) -> Seen {
     Seen {
+        repairs: 0,
         lowest: if seen.clauses == 0 { None } else { Some(0) },
         ..seen
     }
 }
 
 #[test]
-fn fixes_literals_of_a_chain(rt: HostRuntime) -> Result<(), Fail> {
+fn fixes_literals_of_a_chain(rt: HostRuntime) {
     let first = Lit::new(1, false);
     let other = Lit::new(1, true);
     let second = Lit::new(2, false);
-    let rows: [(&[Lit], Seen); 4] = [
-        (&[], BEGUN),
-        (&[first], HALF),
-        (&[first, second], FIXED),
-        (&[other], REFUTED),
-    ];
-    for (lits, seen) in rows {
-        let made = after_fixing(rt.alloc(), CHAIN, lits)?;
-        assert_eq!(rt; made, Some(seen));
-    }
+    assert!(rt; is_left(rt.alloc(), &[], BEGUN));
+    assert!(rt; is_left(rt.alloc(), &[first], HALF));
+    assert!(rt; is_left(rt.alloc(), &[first, second], FIXED));
+    assert!(rt; is_left(rt.alloc(), &[other], REFUTED));
     refuting_keeps();
     fixing_keeps_store();
     starting_keeps();
-    Ok(())
 }

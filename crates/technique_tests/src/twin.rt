@@ -5,7 +5,6 @@ use mp_logic::{Lit, NoMemory};
 use mp_store::Store;
 use mp_text::TextBuf;
 use std::alloc::Global;
-use std::test::Fail;
 
 /// Pseudo-random numbers (Marsaglia, 2003).
 #[derive(Clone, Copy)]
@@ -28,29 +27,37 @@ impl Xorshift {
 }
 
 /// A text of so many hard clauses of three literals each, and of soft clauses of one.
-fn random_text(
-    alloc: Global,
-    numbers: &mut Xorshift,
-    vars: u32,
-    clauses: u32,
-) -> Result<TextBuf, NoMemory> {
+fn random_text(alloc: Global, numbers: &mut Xorshift, vars: u32, clauses: u32) -> Option<TextBuf> {
     let mut text = TextBuf::new(alloc);
     for _ in 0..clauses {
-        text.word(b"h")?;
-        for _ in 0..3 {
-            let lit = numbers.lit(vars);
-            text.word(if lit.negative { b" -" } else { b" " })?;
-            text.number(u128::from(lit.variable))?;
+        if put_hard(&mut text, numbers, vars).is_err() {
+            return None;
         }
-        text.word(b" 0\n")?;
     }
     for variable in 0..vars {
-        text.number(u128::from(numbers.below(9)))?;
-        text.word(b" -")?;
-        text.number(u128::from(variable) + 1)?;
-        text.word(b" 0\n")?;
+        if put_soft(&mut text, numbers.below(9), variable).is_err() {
+            return None;
+        }
     }
-    Ok(text)
+    Some(text)
+}
+
+fn put_hard(text: &mut TextBuf, numbers: &mut Xorshift, vars: u32) -> Result<(), NoMemory> {
+    text.word(b"h")?;
+    for _ in 0..3 {
+        let lit = numbers.lit(vars);
+        text.word(if lit.negative { b" -" } else { b" " })?;
+        text.number(u128::from(lit.variable))?;
+    }
+    text.word(b" 0\n")
+}
+
+/// Puts the soft clause of the negative literal of a variable, which counts from 0 here.
+fn put_soft(text: &mut TextBuf, weight: u32, variable: u32) -> Result<(), NoMemory> {
+    text.number(u128::from(weight))?;
+    text.word(b" -")?;
+    text.number(u128::from(variable) + 1)?;
+    text.word(b" 0\n")
 }
 
 /// The clause of each id so far, None where it is gone.
@@ -73,30 +80,47 @@ impl Twin {
         Ok(Twin { clauses })
     }
 
-    /// Fixes a literal clause by clause.
+    /// Fixes a literal clause by clause; what a clause is shortened to stands at the end.
     fn fix(&mut self, alloc: Global, lit: Lit) -> Result<(), NoMemory> {
-        let mut added = Vec::new(alloc);
-        for slot in self.clauses.iter_mut() {
-            let Some(clause) = slot else {
-                continue;
-            };
-            if clause.contains(&lit) {
-                *slot = None;
-            } else if clause.contains(&lit.negated()) {
-                let mut rest = Vec::new(alloc);
-                for other in clause.iter() {
-                    if *other != lit.negated() {
-                        rest.push(*other)?;
-                    }
-                }
-                added.push(Some(rest))?;
-                *slot = None;
+        for place in 0..self.clauses.len() {
+            if let Some(rest) = self.shortened(alloc, place, lit)? {
+                self.clauses.push(Some(rest))?;
             }
         }
-        for clause in added {
-            self.clauses.push(clause)?;
-        }
         Ok(())
+    }
+
+    /// Takes out a clause that the literal changes, and answers what is left of it where that is a clause.
+    fn shortened(
+        &mut self,
+        alloc: Global,
+        place: usize,
+        lit: Lit,
+    ) -> Result<Option<Vec<Lit>>, NoMemory> {
+        let Some(Some(clause)) = self.clauses.get(place) else {
+            return Ok(None);
+        };
+        if clause.contains(&lit) {
+            self.clauses[place] = None;
+            return Ok(None);
+        }
+        if !clause.contains(&lit.negated()) {
+            return Ok(None);
+        }
+        let rest = without(alloc, clause.as_slice(), lit.negated())?;
+        self.clauses[place] = None;
+        Ok(Some(rest))
+    }
+
+    /// Whether the store shows the same clauses, and the same ids for each literal of so many variables.
+    fn shows_each(&self, store: &Store, vars: u32) -> bool {
+        for variable in 0..vars {
+            let lit = Lit::new(variable + 1, false);
+            if !self.shows(store, lit) || !self.shows(store, lit.negated()) {
+                return false;
+            }
+        }
+        true
     }
 
     /// Whether the store shows the same clauses, and the same ids for the literal.
@@ -126,41 +150,55 @@ impl Twin {
     }
 }
 
-/// How many rewrites went along with the twin, or None where one did not.
-fn rewrites_alike(alloc: Global, numbers: &mut Xorshift) -> Result<Option<u32>, NoMemory> {
-    let text = random_text(alloc, numbers, 10, 24)?;
-    let Some(mut store) = store_of(alloc, text.bytes())? else {
-        return Ok(None);
-    };
-    let mut twin = Twin::of(alloc, &store)?;
-    for done in 0..10 {
-        let lit = numbers.lit(10);
-        fix(alloc, &mut store, lit)?;
-        twin.fix(alloc, lit)?;
-        if store.refuted() {
-            return Ok(Some(done));
-        }
-        for variable in 1..11 {
-            for negative in [false, true] {
-                if !twin.shows(&store, Lit { variable, negative }) {
-                    return Ok(None);
-                }
-            }
+/// A clause without a literal.
+fn without(alloc: Global, clause: &[Lit], gone: Lit) -> Result<Vec<Lit>, NoMemory> {
+    let mut rest = Vec::new(alloc);
+    for lit in clause {
+        if *lit != gone {
+            rest.push(*lit)?;
         }
     }
-    Ok(Some(10))
+    Ok(rest)
+}
+
+/// How many rewrites went along with the twin, or None where one did not.
+fn rewrites_alike(alloc: Global, numbers: &mut Xorshift) -> Option<u32> {
+    let text = random_text(alloc, numbers, 10, 24)?;
+    let mut made = store_of(alloc, text.bytes());
+    match &mut made {
+        Some(store) => goes_along(alloc, numbers, store),
+        None => None,
+    }
+}
+
+fn goes_along(alloc: Global, numbers: &mut Xorshift, store: &mut Store) -> Option<u32> {
+    let Ok(mut twin) = Twin::of(alloc, store) else {
+        return None;
+    };
+    for done in 0..10 {
+        let lit = numbers.lit(10);
+        if fix(alloc, store, lit).is_err() || twin.fix(alloc, lit).is_err() {
+            return None;
+        }
+        if store.refuted() {
+            return Some(done);
+        }
+        if !twin.shows_each(store, 10) {
+            return None;
+        }
+    }
+    Some(10)
 }
 
 #[test]
-fn goes_along_with_its_twin(rt: HostRuntime) -> Result<(), Fail> {
+fn goes_along_with_its_twin(rt: HostRuntime) {
     let mut numbers = Xorshift(2_463_534_242);
     let mut rewrites = 0u32;
     for _ in 0..60 {
-        match rewrites_alike(rt.alloc(), &mut numbers)? {
+        match rewrites_alike(rt.alloc(), &mut numbers) {
             Some(done) => rewrites = rewrites.wrapping_add(done),
             None => assert!(rt; false),
         }
     }
     assert!(rt; rewrites > 200);
-    Ok(())
 }
