@@ -4,35 +4,44 @@ use mp_host::{
 use mp_logic::NoMemory;
 use std::alloc::Global;
 use std::fs;
-use std::test::Fail;
 
 /// A desk with two files, which moves so many bytes at a time and fails one call.
-fn desk(alloc: Global, chunk: usize, failing: u64) -> Result<Desk, NoMemory> {
+fn desk(alloc: Global, chunk: usize, failing: u64) -> Option<Desk> {
     let mut desk = Desk::new(alloc);
+    desk.chunk(chunk.max(1));
+    match prepare(&mut desk, failing) {
+        Ok(()) => Some(desk),
+        Err(_) => None,
+    }
+}
+
+fn prepare(desk: &mut Desk, failing: u64) -> Result<(), NoMemory> {
     desk.put_file("F", b"other")?;
     desk.put_file("F", b"hello")?;
     desk.put_file("G", b"more")?;
-    desk.chunk(chunk.max(1));
-    desk.fail_call(failing)?;
-    Ok(desk)
+    desk.fail_call(failing)
 }
 
 /// Whether a file is read as `hello`, or with the error that is wanted.
 fn is_read(
     alloc: Global,
-    desk: &mut Desk,
     name: &str,
+    chunk: usize,
+    failing: u64,
     limit: u64,
     want: Option<ReadAllError>,
 ) -> bool {
-    match read_all(alloc, desk, name, limit) {
+    let Some(mut desk) = desk(alloc, chunk, failing) else {
+        return false;
+    };
+    match read_all(alloc, &mut desk, name, limit) {
         Ok(bytes) => want.is_none() && bytes.items() == b"hello".as_slice(),
         Err(error) => want == Some(error),
     }
 }
 
 #[test]
-fn reads_up_to_the_limit(rt: HostRuntime) -> Result<(), Fail> {
+fn reads_up_to_the_limit(rt: HostRuntime) {
     // the file, the size of a chunk, the host call that fails, the limit, and the error that is wanted
     let rows = [
         ("F", 7, 9, 5, None),
@@ -44,18 +53,21 @@ fn reads_up_to_the_limit(rt: HostRuntime) -> Result<(), Fail> {
         ("F", 2, 2, 5, Some(ReadAllError::ReadFault)),
         ("H", 7, 9, 5, Some(ReadAllError::ReadFault)),
     ];
-    for (place, (name, chunk, failing, limit, want)) in rows.iter().enumerate() {
-        let mut desk = desk(rt.alloc(), *chunk, *failing)?;
-        assert!(rt;
-            is_read(rt.alloc(), &mut desk, name, *limit, *want),
-            "at {place}"
-        );
+    for (name, chunk, failing, limit, want) in rows {
+        assert!(rt; is_read(rt.alloc(), name, chunk, failing, limit, want));
     }
-    Ok(())
 }
 
-/// Whether just these first bytes of `hello` go out.
-fn is_out(desk: &mut Desk, want: &[u8]) -> bool {
+/// Whether just these first bytes of `hello` go out, where Out stops after so many.
+fn is_out(alloc: Global, chunk: usize, stop: u64, failing: u64, want: &[u8]) -> bool {
+    match desk(alloc, chunk, failing) {
+        Some(mut desk) => goes_out(&mut desk, stop, want),
+        None => false,
+    }
+}
+
+fn goes_out(desk: &mut Desk, stop: u64, want: &[u8]) -> bool {
+    desk.stop_port(Port::Out, stop);
     let written = match write_all(desk, Port::Out, b"hello") {
         Ok(()) => 5,
         Err(WriteFault { written }) => written,
@@ -64,21 +76,13 @@ fn is_out(desk: &mut Desk, want: &[u8]) -> bool {
 }
 
 #[test]
-fn writes_up_to_a_stop(rt: HostRuntime) -> Result<(), Fail> {
+fn writes_up_to_a_stop(rt: HostRuntime) {
     // the size of a chunk, where Out stops, the host call that fails, and what Out got
-    let rows: [(usize, u64, u64, &[u8]); 5] = [
-        (1, 9, 9, b"hello"),
-        (7, 5, 9, b"hello"),
-        (3, 4, 9, b"hell"),
-        (2, 0, 9, b""),
-        (2, 9, 1, b"he"),
-    ];
-    for (chunk, stop, failing, want) in rows {
-        let mut desk = desk(rt.alloc(), chunk, failing)?;
-        desk.stop_port(Port::Out, stop);
-        assert!(rt; is_out(&mut desk, want), "{chunk} and {stop}");
-    }
-    Ok(())
+    assert!(rt; is_out(rt.alloc(), 1, 9, 9, b"hello"));
+    assert!(rt; is_out(rt.alloc(), 7, 5, 9, b"hello"));
+    assert!(rt; is_out(rt.alloc(), 3, 4, 9, b"hell"));
+    assert!(rt; is_out(rt.alloc(), 2, 0, 9, b""));
+    assert!(rt; is_out(rt.alloc(), 2, 9, 1, b"he"));
 }
 
 /// Whether a map is made that holds just these bytes, which go to Log too.
@@ -92,42 +96,47 @@ fn is_mapped(desk: &mut Desk, text: &[u8]) -> bool {
 }
 
 #[test]
-fn makes_the_map_anew(rt: HostRuntime) -> Result<(), Fail> {
+fn makes_the_map_anew(rt: HostRuntime) {
     let mut desk = Desk::new(rt.alloc());
-    for text in [b"one".as_slice(), b"two".as_slice()] {
-        assert!(rt; is_mapped(&mut desk, text));
+    assert!(rt; is_mapped(&mut desk, b"one"));
+    assert!(rt; is_mapped(&mut desk, b"two"));
+    assert!(rt; desk.log() == b"onetwo".as_slice());
+}
+
+/// Whether a file of a quiet desk is read as this, unless memory is wanting.
+fn is_told(alloc: Global, desk: &mut QuietDesk, name: &str, want: &[u8]) -> bool {
+    match read_all(alloc, desk, name, 5) {
+        Ok(bytes) => bytes.items() == want,
+        Err(error) => error == ReadAllError::NoMemory,
     }
-    assert_eq!(rt; desk.log(), b"onetwo".as_slice());
-    Ok(())
 }
 
 #[test]
-fn a_quiet_desk_takes_all(rt: HostRuntime) -> Result<(), Fail> {
+fn a_quiet_desk_takes_all(rt: HostRuntime) {
     let mut desk = QuietDesk::new(rt.alloc());
-    desk.put_file("F", b"hello")?;
+    assert!(rt; desk.put_file("F", b"hello").is_ok());
     desk.chunk(2);
-    for (name, want) in [("F", b"hello".as_slice()), ("G", b"".as_slice())] {
-        match read_all(rt.alloc(), &mut desk, name, 5) {
-            Ok(bytes) => assert_eq!(rt; bytes.items(), want),
-            Err(error) => assert_eq!(rt; error, ReadAllError::NoMemory),
-        }
-    }
+    assert!(rt; is_told(rt.alloc(), &mut desk, "F", b"hello"));
+    assert!(rt; is_told(rt.alloc(), &mut desk, "G", b""));
     assert!(rt; desk.create_map("M").is_ok());
     assert!(rt; write_all(&mut desk, Port::Map, b"hello").is_ok());
-    Ok(())
+}
+
+/// Whether a real file can be made, written and read again, unless memory is wanting.
+fn keeps_a_file(alloc: Global, host: &mut RealHost) -> bool {
+    if host.create_map("small").is_err() || write_all(host, Port::Map, b"a small file").is_err() {
+        return false;
+    }
+    match read_all(alloc, host, "small", 12) {
+        Ok(bytes) => bytes.items() == b"a small file".as_slice(),
+        Err(error) => error == ReadAllError::NoMemory,
+    }
 }
 
 #[test]
-fn real_files(rt: HostRuntime) -> Result<(), Fail> {
+fn real_files(rt: HostRuntime) {
     let mut host = RealHost::new(rt);
-    assert!(rt; host.create_map("small").is_ok());
-    assert!(rt; write_all(&mut host, Port::Map, b"a small file").is_ok());
-    match read_all(rt.alloc(), &mut host, "small", 12) {
-        Ok(bytes) => assert_eq!(rt; bytes.items(), b"a small file".as_slice()),
-        Err(error) => assert_eq!(rt; error, ReadAllError::NoMemory),
-    }
-    let missing = read_all(rt.alloc(), &mut host, "nothing here", 12);
-    assert!(rt; missing.is_err());
-    fs::remove_file(&rt, "small")?;
-    Ok(())
+    assert!(rt; keeps_a_file(rt.alloc(), &mut host));
+    assert!(rt; read_all(rt.alloc(), &mut host, "nothing here", 12).is_err());
+    assert!(rt; fs::remove_file(&rt, "small").is_ok());
 }

@@ -3,32 +3,40 @@
 use crate::instances::instance;
 use mp_labels::{LabelError, Labelled, label, unlabel};
 use mp_logic::{Copied, Limits, NoMemory};
-use mp_wcnf::{Form, ReadError, write};
+use mp_wcnf::{Form, write};
 use std::alloc::Global;
-use std::test::Fail;
 
-/// The label view of a text, for no more than so many variables.
-fn view_of(
-    alloc: Global,
-    text: &[u8],
-    inner: u32,
-) -> Result<Result<Labelled, LabelError>, ReadError> {
-    let instance = instance(alloc, text)?;
-    let mut limits = Limits::program();
-    limits.inner = inner;
-    Ok(label(alloc, &instance, &limits))
+/// Whether this text with these names is written of the label view of a text.
+fn is_written(alloc: Global, text: &[u8], want: &[u8], names: &[u32]) -> bool {
+    let Ok(instance) = instance(alloc, text) else {
+        return false;
+    };
+    match label(alloc, &instance, &Limits::program()) {
+        Ok(view) => matches!(writes(alloc, &view, want, names), Ok(true)),
+        Err(_) => false,
+    }
 }
 
 /// Whether this text with these names is written of a labelled state.
-fn is_written(
-    alloc: Global,
-    view: &Labelled,
-    want: &[u8],
-    names: &[u32],
-) -> Result<bool, NoMemory> {
+fn writes(alloc: Global, view: &Labelled, want: &[u8], names: &[u32]) -> Result<bool, NoMemory> {
     let written = unlabel(alloc, &view.copy(alloc)?)?;
     let text = write(alloc, &written.instance, Form::H, written.offset)?;
     Ok(text.items() == want && written.names.items() == names)
+}
+
+/// Whether a soft clause of two literals has a label view of no more than so many variables, or None where memory or
+/// the text is wanting.
+fn fits(alloc: Global, inner: u32) -> Option<bool> {
+    let Ok(instance) = instance(alloc, b"3 1 2 0") else {
+        return None;
+    };
+    let mut limits = Limits::program();
+    limits.inner = inner;
+    match label(alloc, &instance, &limits) {
+        Ok(_) => Some(true),
+        Err(LabelError::TooManyVariables) => Some(false),
+        Err(LabelError::NoMemory) => None,
+    }
 }
 
 // One soft clause of each kind: a repeated unit, a tautology, one without weight, two long ones, an opposite unit and
@@ -40,7 +48,7 @@ const EACH_KIND: &[u8] =
 const LONG: &[u8] = b"h 5 4 3 2 1 0 h 4 3 2 1 0 h -2 1 0 h 1 2 3 -4 0 h 2 1 0\n";
 
 #[test]
-fn instances_written_anew(rt: HostRuntime) -> Result<(), Fail> {
+fn instances_written_anew(rt: HostRuntime) {
     let rows: [(&[u8], &[u8], &[u32]); 7] = [
         (b"h 0", b"c offset 0\nh 1 0\nh -1 0\n", &[1]),
         (b"5 1 0 3 -1 0", b"c offset 3\n2 1 0\n", &[1]),
@@ -59,24 +67,13 @@ fn instances_written_anew(rt: HostRuntime) -> Result<(), Fail> {
         ),
     ];
     for (text, want, names) in rows {
-        match view_of(rt.alloc(), text, 16_777_215)? {
-            Ok(view) => assert!(rt; is_written(rt.alloc(), &view, want, names)?),
-            Err(error) => assert!(rt; false, "{error}"),
-        }
+        assert!(rt; is_written(rt.alloc(), text, want, names));
     }
-    Ok(())
 }
 
 #[test]
-fn limit_of_labels(rt: HostRuntime) -> Result<(), Fail> {
-    for (inner, fits) in [(1, false), (2, false), (3, true)] {
-        match view_of(rt.alloc(), b"3 1 2 0", inner)? {
-            Ok(_) => assert!(rt; fits),
-            Err(error) => {
-                assert!(rt; !fits);
-                assert_eq!(rt; error, LabelError::TooManyVariables);
-            }
-        }
-    }
-    Ok(())
+fn limit_of_labels(rt: HostRuntime) {
+    assert!(rt; matches!(fits(rt.alloc(), 1), Some(false)));
+    assert!(rt; matches!(fits(rt.alloc(), 2), Some(false)));
+    assert!(rt; matches!(fits(rt.alloc(), 3), Some(true)));
 }

@@ -11,8 +11,16 @@ fn rewritten(alloc: Global, text: &[u8], form: Form) -> Result<Bytes, ReadError>
     Ok(write(alloc, &instance, form, 0)?)
 }
 
+/// Whether just this is written of a text.
+fn is_rewritten(alloc: Global, text: &[u8], form: Form, want: &[u8]) -> bool {
+    match rewritten(alloc, text, form) {
+        Ok(bytes) => bytes.items() == want,
+        Err(_) => false,
+    }
+}
+
 #[test]
-fn reads_and_writes(rt: HostRuntime) -> Result<(), Fail> {
+fn reads_and_writes(rt: HostRuntime) {
     let rows: [(&[u8], &[u8]); 16] = [
         (b"", b"c offset 0\np wcnf 0 0 1\n"),
         (b"c only\n", b"c offset 0\np wcnf 0 0 1\n"),
@@ -59,27 +67,24 @@ fn reads_and_writes(rt: HostRuntime) -> Result<(), Fail> {
         (b"p wcnf 0 0", b"c offset 0\np wcnf 0 0 1\n"),
     ];
     for (place, (text, want)) in rows.iter().enumerate() {
-        match rewritten(rt.alloc(), text, Form::P) {
-            Ok(bytes) => assert_eq!(rt; bytes.items(), *want, "at {place}"),
-            Err(error) => assert!(rt; false, "{error} at {place}"),
-        }
+        assert!(rt; is_rewritten(rt.alloc(), text, Form::P, want), "at {place}");
     }
-    match rewritten(rt.alloc(), b"p wcnf 4 9 3 2 -1 0 3 1 2 0", Form::H) {
-        Ok(_) => assert!(rt; false),
-        Err(error) => assert_eq!(rt; error, ReadError::Syntax { line: 1 }),
-    }
-    match rewritten(rt.alloc(), b"p wcnf 4 9 3\n2 -1 0 3 1 2 0", Form::H) {
-        Ok(bytes) => assert_eq!(rt; bytes.items(), b"c offset 0\nh 1 2 0\n2 -1 0\n".as_slice()),
-        Err(error) => assert!(rt; false, "{error}"),
-    }
-    Ok(())
 }
 
-/// Why a text is refused.
-fn fault_of(alloc: Global, text: &[u8], limits: &Limits) -> Option<ReadError> {
+#[test]
+fn writes_the_other_form(rt: HostRuntime) {
+    let text = b"p wcnf 4 9 3\n2 -1 0 3 1 2 0";
+    let want = b"c offset 0\nh 1 2 0\n2 -1 0\n";
+    assert!(rt; is_rewritten(rt.alloc(), text, Form::H, want));
+    let joined = rewritten(rt.alloc(), b"p wcnf 4 9 3 2 -1 0 3 1 2 0", Form::H);
+    assert!(rt; matches!(joined, Err(ReadError::Syntax { line: 1 })));
+}
+
+/// Whether a text is refused so.
+fn is_refused(alloc: Global, text: &[u8], limits: &Limits, want: ReadError) -> bool {
     match read(alloc, text, limits) {
-        Ok(_) => None,
-        Err(error) => Some(error),
+        Ok(_) => false,
+        Err(error) => error == want,
     }
 }
 
@@ -132,11 +137,7 @@ fn refuses_the_first_fault(rt: HostRuntime) {
         ),
     ];
     for (place, (text, want)) in rows.iter().enumerate() {
-        assert_eq!(rt;
-            fault_of(rt.alloc(), text, &limits),
-            Some(*want),
-            "at {place}"
-        );
+        assert!(rt; is_refused(rt.alloc(), text, &limits, *want), "at {place}");
     }
 }
 
@@ -173,11 +174,7 @@ fn refuses_what_passes_a_limit(rt: HostRuntime) {
         limits.clauses = *clauses;
         limits.literals = *literals;
         limits.weight = *weight;
-        assert_eq!(rt;
-            fault_of(rt.alloc(), text, &limits),
-            Some(*want),
-            "at {place}"
-        );
+        assert!(rt; is_refused(rt.alloc(), text, &limits, *want), "at {place}");
     }
 }
 
