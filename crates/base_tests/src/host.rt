@@ -95,12 +95,17 @@ fn is_mapped(desk: &mut Desk, text: &[u8]) -> bool {
     map.is_ok() && log.is_ok() && desk.map() == text
 }
 
+/// Whether a map is made anew each time, and the log goes on.
+fn maps_anew(alloc: Global) -> bool {
+    let mut desk = Desk::new(alloc);
+    is_mapped(&mut desk, b"one")
+        && is_mapped(&mut desk, b"two")
+        && desk.log() == b"onetwo".as_slice()
+}
+
 #[test]
 fn makes_the_map_anew(rt: HostRuntime) {
-    let mut desk = Desk::new(rt.alloc());
-    assert!(rt; is_mapped(&mut desk, b"one"));
-    assert!(rt; is_mapped(&mut desk, b"two"));
-    assert!(rt; desk.log() == b"onetwo".as_slice());
+    assert!(rt; maps_anew(rt.alloc()));
 }
 
 /// Whether a file of a quiet desk is read as this, unless memory is wanting.
@@ -111,15 +116,23 @@ fn is_told(alloc: Global, desk: &mut QuietDesk, name: &str, want: &[u8]) -> bool
     }
 }
 
+/// Whether a quiet desk tells of its files, and takes a map.
+fn takes_all(alloc: Global, desk: &mut QuietDesk) -> bool {
+    desk.chunk(2);
+    if desk.put_file("F", b"hello").is_err() {
+        return false;
+    }
+    let is_read = is_told(alloc, desk, "F", b"hello") && is_told(alloc, desk, "G", b"");
+    if desk.create_map("M").is_err() {
+        return false;
+    }
+    is_read && write_all(desk, Port::Map, b"hello").is_ok()
+}
+
 #[test]
 fn a_quiet_desk_takes_all(rt: HostRuntime) {
     let mut desk = QuietDesk::new(rt.alloc());
-    assert!(rt; desk.put_file("F", b"hello").is_ok());
-    desk.chunk(2);
-    assert!(rt; is_told(rt.alloc(), &mut desk, "F", b"hello"));
-    assert!(rt; is_told(rt.alloc(), &mut desk, "G", b""));
-    assert!(rt; desk.create_map("M").is_ok());
-    assert!(rt; write_all(&mut desk, Port::Map, b"hello").is_ok());
+    assert!(rt; takes_all(rt.alloc(), &mut desk));
 }
 
 /// Whether a real file can be made, written and read again, unless memory is wanting.

@@ -71,11 +71,11 @@ fn lists(rt: HostRuntime) {
     assert!(rt; matches!(changes_lists(rt.alloc()), Ok(true)));
 }
 
-/// Whether a clause is true, where the second and the third of three variables are.
-fn is_satisfied(alloc: Global, numbers: &[i32]) -> Result<bool, NoMemory> {
+/// Whether a clause is true, or false, where the second and the third of three variables are true.
+fn is_valued(alloc: Global, numbers: &[i32], want: bool) -> Result<bool, NoMemory> {
     let a = values(alloc, &[false, true, true])?;
     let clause = clause(alloc, numbers)?;
-    Ok(satisfies(&clause, &a))
+    Ok(satisfies(&clause, &a) == want)
 }
 
 /// Whether a literal is true under the same values.
@@ -86,13 +86,17 @@ fn is_held(alloc: Global, number: i32) -> Result<bool, NoMemory> {
 
 #[test]
 fn truth(rt: HostRuntime) {
-    // the true literal stands last; past the end, where variables are false
-    assert!(rt; matches!(is_satisfied(rt.alloc(), &[1, -2, 3]), Ok(true)));
-    assert!(rt; matches!(is_satisfied(rt.alloc(), &[9, -4]), Ok(true)));
-    // none is true; no literal; past the end
-    assert!(rt; matches!(is_satisfied(rt.alloc(), &[1, -2, -3]), Ok(false)));
-    assert!(rt; matches!(is_satisfied(rt.alloc(), &[]), Ok(false)));
-    assert!(rt; matches!(is_satisfied(rt.alloc(), &[9]), Ok(false)));
+    // the true literal stands last; none is true; no literal; past the end, where variables are false
+    let rows: [(&[i32], bool); 5] = [
+        (&[1, -2, 3], true),
+        (&[1, -2, -3], false),
+        (&[], false),
+        (&[9], false),
+        (&[9, -4], true),
+    ];
+    for (numbers, want) in rows {
+        assert!(rt; matches!(is_valued(rt.alloc(), numbers, want), Ok(true)));
+    }
     assert!(rt; matches!(is_held(rt.alloc(), -1), Ok(true)));
     assert!(rt; matches!(is_held(rt.alloc(), 4), Ok(false)));
 }

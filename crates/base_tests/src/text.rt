@@ -3,6 +3,7 @@ use mp_text::{
     Bytes, Cursor, LitToken, TextBuf, Token, literal, natural, numbers_are_read_again,
     tokens_are_slices,
 };
+use std::alloc::Global;
 
 /// Whether it is a token of this text, at this start and on this line, and whether it leads.
 fn is_token(token: Option<Token>, text: &[u8], start: usize, line: u64, leads: bool) -> bool {
@@ -110,6 +111,16 @@ fn put_numbers(text: &mut TextBuf, numbers: &[u128]) -> Result<(), NoMemory> {
     Ok(())
 }
 
+/// Whether just this text is built of the numbers with a space behind each.
+fn is_built(alloc: Global, numbers: &[u128], want: &[u8]) -> bool {
+    let mut text = TextBuf::new(alloc);
+    if put_numbers(&mut text, numbers).is_err() || text.bytes() != want {
+        return false;
+    }
+    let bytes: Bytes = text.into_bytes();
+    bytes.items() == want
+}
+
 #[test]
 fn builds_texts(rt: HostRuntime) {
     let numbers = [
@@ -121,11 +132,7 @@ fn builds_texts(rt: HostRuntime) {
     ];
     let want: &[u8] =
         b"0 10 18446744073709551615 18446744073709551616 340282366920938463463374607431768211455 ";
-    let mut text = TextBuf::new(rt.alloc());
-    assert!(rt; put_numbers(&mut text, &numbers).is_ok());
-    assert!(rt; text.bytes() == want);
-    let bytes: Bytes = text.into_bytes();
-    assert!(rt; bytes.items() == want);
+    assert!(rt; is_built(rt.alloc(), &numbers, want));
     tokens_are_slices();
     numbers_are_read_again();
 }
