@@ -12,3 +12,9 @@ returns-clause-refused c =
     let At : Limits → Type 0 = λ m. c.in-Err.error ≢ errors.NoMemory → IsRefused m c.args.text c.in-Err.error in
     let Says : Refusal → Type 0 = IsInstanceRefusal c.args.text in
     subst Says (sym c.refusal_of.ensures) (refused_text c.args.text c.in-Err.error (subst At c.limits.ensures (rw c.items.ensures at c.in-Err.ensures.refused)))
+
+pub returns-in-Ok-clause-refused : goal.returns-in-Ok-clause-refused
+returns-in-Ok-clause-refused c = tt
+
+pub returns-in-Ok-clause-accepts : goal.returns-in-Ok-clause-accepts
+returns-in-Ok-clause-accepts c = rw (c.items.ensures, c.limits.ensures) at c.in-Ok.ensures.accepts
