@@ -32,14 +32,21 @@ run() { # words
   status=$?
 }
 
+# a run that ends well writes this, and this as its log
+logs() { # what, output, log, words
+  local what=$1 output=$2 log=$3
+  shift 3
+  run "$@"
+  same "$what: status" 0 "$status"
+  same "$what: output" "$output" "$(cat out)"
+  same "$what: standard error" "$log" "$(cat err)"
+}
+
 # a run that ends well writes this and says nothing
 writes() { # what, output, words
   local what=$1 output=$2
   shift 2
-  run "$@"
-  same "$what: status" 0 "$status"
-  same "$what: output" "$output" "$(cat out)"
-  same "$what: standard error" "" "$(cat err)"
+  logs "$what" "$output" "" "$@"
 }
 
 # a run that is refused writes nothing, creates no map, and says this
@@ -78,25 +85,34 @@ end'
 
 # --- preprocess ---
 printf 'h 1 0\nh -1 2 0\n3 -2 0\n' >chain.wcnf
-writes "a chain of units" "c offset 3" preprocess chain.wcnf --techniques=u --mapfile=chain.map
+logs "a chain of units" "c offset 3" "c stage u finished 0 0 0
+c single" preprocess chain.wcnf --techniques=u --mapfile=chain.map
 same "a chain of units: map" "$chain_map" "$(cat chain.map)"
-writes "no technique" "c offset 0
+logs "no technique" "c offset 0
 h 1 0
 h -1 2 0
-3 -2 0" preprocess chain.wcnf '--techniques=#' --mapfile=m
-writes "the older form" "c offset 0
+3 -2 0" "c single" preprocess chain.wcnf '--techniques=#' --mapfile=m
+logs "the older form" "c offset 0
 p wcnf 2 3 4
 4 1 0
 4 -1 2 0
-3 -2 0" preprocess chain.wcnf '--techniques=#' --mapfile=m --form=p
+3 -2 0" "c single" preprocess chain.wcnf '--techniques=#' --mapfile=m --form=p
 printf 'p wcnf 2 3 10\r\n10 1 0\r\nc mid\r\n12 -1 2\r\n0 9 -2 0' >old.wcnf
-writes "the older form, read, with CR LF" "c offset 9" preprocess old.wcnf --techniques=u --mapfile=m --form=h
+logs "the older form, read, with CR LF" "c offset 9" "c stage u finished 0 0 0
+c single" preprocess old.wcnf --techniques=u --mapfile=m --form=h
 : >empty.wcnf
-writes "an empty file" "c offset 0" preprocess empty.wcnf --techniques=u --mapfile=m
+logs "an empty file" "c offset 0" "c stage u finished 0 0 0
+c single" preprocess empty.wcnf --techniques=u --mapfile=m
 printf 'h 1 0\nh -1 0\n' >clash.wcnf
-writes "no model" "c offset 0
+logs "no model" "c offset 0
 h 1 0
-h -1 0" preprocess clash.wcnf --techniques=u --mapfile=m
+h -1 0" "c stage u finished 1 0 0
+c refuted" preprocess clash.wcnf --techniques=u --mapfile=m
+logs "a loop" "c offset 3" "c stage b finished 2 3 1
+c stage u finished 0 0 0
+c stage b finished 0 0 0
+c stage u finished 0 0 0
+c settled" preprocess chain.wcnf '--techniques=[bu]' --mapfile=m
 "$maxpre" preprocess /dev/stdin --techniques=u --mapfile=m <chain.wcnf >out 2>err
 same "standard input" "0 c offset 3" "$? $(cat out)"
 printf 'h 1 0\nh -1 2 0\n3 -2 0\n' | "$maxpre" preprocess /dev/stdin --techniques=u --mapfile=m >out 2>err
@@ -119,6 +135,8 @@ refuses "no words" 2 "maxpre: usage: maxpre MODE OPERAND [--NAME=VALUE]"
 refuses "no map's name" 2 "maxpre: usage: maxpre MODE OPERAND [--NAME=VALUE]" preprocess chain.wcnf --techniques=u
 refuses "an unknown form" 2 "maxpre: usage: maxpre MODE OPERAND [--NAME=VALUE]" preprocess chain.wcnf --techniques=u --mapfile=new.map --form=x
 refuses "an option of another mode" 2 "maxpre: usage: maxpre MODE OPERAND [--NAME=VALUE]" preprocess chain.wcnf --techniques=u --mapfile=new.map --values=bits
+refuses "a script that is none" 10 "maxpre: script: byte 2" preprocess missing.wcnf '--techniques=[u' --mapfile=new.map
+refuses "a technique that is not built" 12 "maxpre: not built yet" preprocess missing.wcnf --techniques=uT --mapfile=new.map
 refuses "a missing file" 3 "maxpre: read fault" preprocess missing.wcnf --techniques=u --mapfile=new.map
 refuses "a folder" 3 "maxpre: read fault" preprocess . --techniques=u --mapfile=new.map
 refuses "a missing map" 3 "maxpre: read fault" reconstruct found --mapfile=missing.map
@@ -126,8 +144,8 @@ printf '3 1 0\nh 1 2\n' >bad.wcnf
 refuses "a clause that doesn't end" 5 "maxpre: instance: line 2" preprocess bad.wcnf --techniques=u --mapfile=new.map
 printf 'h 8388608 0\n' >large.wcnf
 refuses "a variable past the limit" 6 "maxpre: limit: variables 8388607" preprocess large.wcnf --techniques=u --mapfile=new.map
-printf '9223372036854775807 1 0\n1 2 0\n' >heavy.wcnf
-refuses "weights past the limit" 6 "maxpre: limit: weight 9223372036854775807" preprocess heavy.wcnf --techniques=u --mapfile=new.map
+printf '170141183460469231731687303715884105727 1 0\n1 2 0\n' >heavy.wcnf
+refuses "weights past the limit" 6 "maxpre: limit: weight 170141183460469231731687303715884105727" preprocess heavy.wcnf --techniques=u --mapfile=new.map
 head -7 chain.map >cut.map
 refuses "a map that is cut" 7 "maxpre: map: line 7" reconstruct found --mapfile=cut.map
 (cat chain.map && echo more) >long.map
@@ -190,10 +208,13 @@ for example in "schedule 10" "release 7" "adder 3"; do
     left_out "$name: its cost (no python3)"
   fi
   if command -v clasp >/dev/null && command -v python3 >/dev/null; then
-    clasp -q1 "$name.smaller" >solved
-    run reconstruct solved --mapfile="$name.map"
-    same "$name: solved and reconstructed" 0 "$status"
-    same "$name: the optimum" "$optimum" "$(python3 "$here/cost.py" "$wcnf" out)"
+    for script in u '[bu]#[buvsr]'; do
+      "$maxpre" preprocess "$wcnf" "--techniques=$script" --mapfile="$name.map" --form=p >"$name.smaller" 2>err
+      clasp -q1 "$name.smaller" >solved
+      run reconstruct solved --mapfile="$name.map"
+      same "$name, $script: solved and reconstructed" 0 "$status"
+      same "$name, $script: the optimum" "$optimum" "$(python3 "$here/cost.py" "$wcnf" out)"
+    done
   else
     left_out "$name: solved by clasp (not installed)"
   fi

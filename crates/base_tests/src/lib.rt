@@ -1,16 +1,8 @@
-//! Tests of the library crates through their public calls, with values worked out by hand. They stand together here,
-//! since a crate with tests of its own is proved twice.
+//! The tests that no data can be given to: generic lists at a concrete type, and the host of real files. All other cases of the
+//! library crates are data for the programs `cases` and `library_cases`.
 #![tactic(auto)]
 
 #[cfg(test)]
-mod host;
+mod lists;
 #[cfg(test)]
-mod instances;
-#[cfg(test)]
-mod labels;
-#[cfg(test)]
-mod logic;
-#[cfg(test)]
-mod text;
-#[cfg(test)]
-mod wcnf;
+mod real_files;

@@ -1,34 +1,26 @@
-//! The program `maxpre`: the words of its command line, the modes, the exit statuses, and the top call over any host.
+//! The program `maxpre`: its command line, files and outputs, handed to the top call of `mp_modes`.
 //!
-//! It promises, as clauses of `top::maxpre`, that what it writes is right for the files that it reads: where `preprocess`
-//! ends with status 0, the written instance, offset and map carry the models and the optimum of the original back
-//! (`specs/PreprocessMode`, `specs/Preprocessing`); where `reconstruct` does, its output is the solution, carried back by
-//! the map (`specs/ReconstructMode`, `specs/Reconstructing`); that each other status has its cause; and that a refusal
-//! leaves the outputs untouched (`specs/Running`). It stands on all library crates.
+//! All that is promised of what it writes stands as clauses of `mp_modes::top::maxpre`, the one call that it makes.
 #![tactic(auto)]
 
-pub mod command;
-pub mod inputs;
-pub mod limits;
-pub mod outputs;
-pub mod preprocess;
-#[cfg(test)]
-mod preprocess_tests;
-pub mod reconstruct;
-#[cfg(test)]
-mod reconstruct_tests;
-pub mod refusal;
-pub mod simplify;
-pub mod status;
-pub mod top;
-pub mod words;
+ghost use Rattle.std.specs.Prelude.{◌≡◌};
+ghost use Rattle.std.specs.Process.{exit_status};
+ghost use Rattle.mp_modes.specs.Refusals as refusals;
 
 use mp_host::RealHost;
-use status::Status;
+use mp_modes::status::Status;
+use mp_modes::top;
+use mp_modes::words::Words;
 use std::env;
 use std::io::ErrorKind;
 use std::process::ExitCode;
-use words::Words;
+
+// The exit code of a status.
+fn exit_code(status: Status) -> ExitCode
+    ensures { exit_status result ≡ refusals.exit_status status }
+{
+    ExitCode::from(status.number())
+}
 
 // A word that isn't UTF-8 is wrong usage; all words fail together, so the kind of the error tells it from want of memory.
 fn main(rt: HostRuntime) -> ExitCode {
@@ -37,16 +29,16 @@ fn main(rt: HostRuntime) -> ExitCode {
     let args = match env::args(&rt) {
         Ok(args) => args,
         Err(error) if error.kind() == ErrorKind::OutOfMemory => {
-            return ExitCode::from(Status::NoMemory.number());
+            return exit_code(Status::NoMemory);
         }
-        Err(_) => return ExitCode::from(Status::Usage.number()),
+        Err(_) => return exit_code(Status::Usage),
     };
     for word in args.skip(1) {
         if words.push(word.as_str()).is_err() {
-            return ExitCode::from(Status::NoMemory.number());
+            return exit_code(Status::NoMemory);
         }
     }
     let mut host = RealHost::new(rt);
     let outcome = top::maxpre(alloc, &words, &mut host);
-    ExitCode::from(outcome.status.number())
+    exit_code(outcome.status)
 }

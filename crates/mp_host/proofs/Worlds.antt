@@ -1,5 +1,5 @@
 -- Laws of what calls of a host do to its world.
-use Rattle.std.proofs.Common.{◌≡◌, ℕ, List, [], ◌++◌, Option, Some, None, ◌+◌, ◌-◌, length, take, drop, refl, sym, ap, append_assoc, arith, ◌≤◌}
+use Rattle.std.proofs.Common.{◌≡◌, ℕ, List, [], ◌∷◌, ◌++◌, Option, Some, None, ◌+◌, ◌-◌, length, take, drop, refl, sym, subst, ap, append_assoc, arith, ◌≤◌}
 use Rattle.std.proofs.Math.Seq.{take-add}
 use Rattle.std.proofs.lemmas.List.{append-nil, take_all, take_at, length-drop, length-take-le, drop-drop, take-append-drop}
 use Rattle.mp_host.specs.World.{World, Asked, sent, before_told, after_told}
@@ -49,7 +49,9 @@ next_bytes content items front tail at n same is few =
 
 -- what two calls ask for, one after the other
 pub Asked-trans : (first middle last : Option (List (List ℕ))) (xs ys : List (List ℕ)) → Asked first middle xs → Asked middle last ys → Asked first last (xs ++ ys)
-Asked-trans first middle None xs ys a b = tt
-Asked-trans first None (Some now) xs ys a b = absurd b
-Asked-trans None (Some then) (Some now) xs ys a b = absurd a
-Asked-trans (Some before) (Some then) (Some now) xs ys a b = rw (b, a, append_assoc) refl
+Asked-trans first middle last [] ys a b = let P : Option (List (List ℕ)) → Type 0 = λ old. Asked old last ys in subst P a b
+Asked-trans first middle last (x ∷ xs) [] a b = let P : Option (List (List ℕ)) → Type 0 = λ new. Asked first new (x ∷ xs) in rw (append-nil xs) (subst P (sym b) a)
+Asked-trans first middle None (x ∷ xs) (y ∷ ys) a b = tt
+Asked-trans first None (Some now) (x ∷ xs) (y ∷ ys) a b = absurd b
+Asked-trans None (Some then) (Some now) (x ∷ xs) (y ∷ ys) a b = absurd a
+Asked-trans (Some before) (Some then) (Some now) (x ∷ xs) (y ∷ ys) a b = rw (b, a, append_assoc) refl

@@ -1,11 +1,11 @@
 -- What a desk stands for, and what it was told to do.
-use Rattle.std.specs.Prelude.{ℕ, List, if◌then◌else◌, Some, None, Option}
+use Rattle.std.specs.Prelude.{ℕ, ◌+◌, List, [], Contains, if◌then◌else◌, Some, None, Option, min}
 use Rattle.mp_host.specs.declared.desk.Desk.{Desk}
 use Rattle.mp_host.specs.declared.desk.Names.{Names}
 use Rattle.mp_host.specs.declared.host.Port.{Port}
 use Rattle.mp_host.specs.declared.host.Port.TheVariants.{Out, Log, Map}
 use Rattle.mp_host.specs.Files.{content_of, unread}
-use Rattle.mp_host.specs.World.{World}
+use Rattle.mp_host.specs.World.{World, last_count}
 
 abbrev pub world_of : Desk → World
 world_of d = record {
@@ -32,16 +32,45 @@ read_faults_of d = d.read_faults
 abbrev pub write_faults_of : Desk → ℕ
 write_faults_of d = d.write_faults
 
--- the most bytes that one read or write moves
-abbrev pub chunk_of : Desk → ℕ
-chunk_of d = d.chunk
+-- What a desk was told to do with calls: the most bytes that one read or write moves, the places of the calls that fail,
+-- each counted from 0, and how many bytes each port takes in all; and how many calls it has answered.
+pub record Orders : Type 0 where
+  pub chunk : ℕ
+  pub failing : List ℕ
+  pub out_stop : ℕ
+  pub log_stop : ℕ
+  pub map_stop : ℕ
+  pub calls : ℕ
 
--- the places of the host calls that fail, each counted from 0
-abbrev pub failing_of : Desk → List ℕ
-failing_of d = d.failing
+abbrev pub orders_of : Desk → Orders
+orders_of d = record { chunk = d.chunk; failing = d.failing; out_stop = d.out.stop; log_stop = d.log.stop; map_stop = d.map.stop; calls = d.calls }
+
+-- no bound and no stop but the greatest number, no call that fails, and none answered yet
+abbrev pub no_orders : Orders
+no_orders = record { chunk = last_count; failing = []; out_stop = last_count; log_stop = last_count; map_stop = last_count; calls = 0 }
 
 -- how many bytes a port takes in all
-abbrev pub stop_of : Desk → Port → ℕ
-stop_of d Out = d.out.stop
-stop_of d Log = d.log.stop
-stop_of d Map = d.map.stop
+abbrev pub stop_of : Orders → Port → ℕ
+stop_of o Out = o.out_stop
+stop_of o Log = o.log_stop
+stop_of o Map = o.map_stop
+
+-- with this stop at a port
+abbrev pub stopped : Orders → Port → ℕ → Orders
+stopped o Out after = record o { out_stop = after }
+stopped o Log after = record o { log_stop = after }
+stopped o Map after = record o { map_stop = after }
+
+-- one more call was answered; the count stays at its last value
+abbrev pub called : Orders → Orders
+called o = record o { calls = min (o.calls + 1) last_count }
+
+-- the call at hand is one of those that fail
+abbrev pub FailsNow : Orders → Type 0
+FailsNow o = Contains o.failing o.calls
+
+-- the bytes that a port holds
+abbrev pub on_port : World → Port → Option (List ℕ)
+on_port w Out = w.out
+on_port w Log = w.log
+on_port w Map = w.map

@@ -1,5 +1,5 @@
 -- What a host means: the world that it stands for, the names that it was asked for, and its counts of faults.
-use Rattle.std.specs.Prelude.{◌≡◌, ℕ, ◌-◌, ◌^◌, ◌≤◌, Bool, true, List, [], ◌++◌, Some, None, OnErr, Result, Option}
+use Rattle.std.specs.Prelude.{◌≡◌, ℕ, ◌-◌, ◌^◌, ◌≤◌, Bool, true, List, [], ◌∷◌, ◌++◌, Some, None, OnErr, Result, Option}
 use Rattle.std.specs.Option.{option_map}
 use Rattle.mp_host.specs.declared.host.Port.{Port}
 use Rattle.mp_host.specs.declared.host.Port.TheVariants.{Out, Log, Map}
@@ -45,11 +45,12 @@ sent w Map bytes = record w { map = after_told w.map bytes }
 abbrev pub SameButInput : World → World → Type 0
 SameButInput old new = new ≡ record old { rest = new.rest; is_open = new.is_open }
 
--- The names asked for are these more. They may cease to be told, and are never told anew.
+-- The names asked for are these more. They may cease to be told where there are some, and are never told anew.
 abbrev pub Asked : Option (List (List ℕ)) → Option (List (List ℕ)) → List (List ℕ) → Type 0
-Asked old None names = Unit {0}
-Asked None (Some now) names = ⊥
-Asked (Some before) (Some now) names = now ≡ before ++ names
+Asked old new [] = new ≡ old
+Asked old None (name ∷ names) = Unit {0}
+Asked None (Some now) (name ∷ names) = ⊥
+Asked (Some before) (Some now) (name ∷ names) = now ≡ before ++ name ∷ names
 
 -- the last value of a count of faults
 abbrev pub last_count : ℕ

@@ -1,5 +1,5 @@
-ghost use Rattle.std.specs.Prelude.{◌≡◌, ◌≢◌, ℕ, ◌<◌, ◌≤◌, ◌++◌, ◌∷◌, List, [], Option, Some, None, false, length, take, OnOk, OnErr, IfOk, MatchResult};
-ghost use Rattle.mp_host.specs.World.{World, HasCause, Rose, Asked};
+ghost use Rattle.std.specs.Prelude.{◌≡◌, ◌≢◌, ◌↔◌, ℕ, ◌+◌, ◌<◌, ◌≤◌, ◌++◌, ◌∷◌, List, [], Option, Some, None, true, false, IsTrue, Contains, length, min, take, OnOk, OnErr, IfOk, IfSome};
+ghost use Rattle.mp_host.specs.World.{World, HasCause, Asked, before_told, emptied, last_count, mapped, opened, sent};
 
 use crate::files::{Files, copy_of};
 use crate::host::{Failed, Host, Port};
@@ -16,7 +16,8 @@ struct Pipe {
 
 impl Pipe {
     fn new(alloc: Global) -> Self
-        ensures { result.bytes ≡ [] }
+        ensures bytes { result.bytes ≡ [] }
+        ensures stop { result.stop ≡ last_count }
     {
         Pipe {
             bytes: Bytes::new(alloc),
@@ -34,6 +35,7 @@ impl Pipe {
         ensures stop { IfOk result (λ _. length self.new.bytes ≤ self.old.stop) }
         ensures ok { IfOk result (λ n. self.new.bytes ≡ self.old.bytes ++ take n piece.now) }
         ensures failed { OnErr result (self.new.bytes ≡ self.old.bytes) }
+        ensures same { self.new.stop ≡ self.old.stop }
     {
         let room = self.stop.saturating_sub(self.bytes.len() as u64);
         if room == 0 {
@@ -103,7 +105,7 @@ pub struct Desk {
 }
 
 impl Desk {
-    ghost use Rattle.mp_host.specs.Desk.{asked_of, chunk_of, failing_of, read_faults_of, stop_of, world_of, write_faults_of};
+    ghost use Rattle.mp_host.specs.Desk.{asked_of, no_orders, orders_of, read_faults_of, stopped, world_of, write_faults_of};
 
     /// A desk without files, with empty ports, which bounds no call and fails none but those that it has to.
     pub fn new(alloc: Global) -> Self
@@ -117,7 +119,7 @@ impl Desk {
         ensures names { asked_of result ≡ Some [] }
         ensures read_faults { read_faults_of result ≡ 0 }
         ensures write_faults { write_faults_of result ≡ 0 }
-        ensures failing { failing_of result ≡ [] }
+        ensures orders { orders_of result ≡ no_orders }
     {
         Desk {
             alloc,
@@ -148,6 +150,7 @@ impl Desk {
         ensures names { asked_of self.new ≡ asked_of self.old }
         ensures read_faults { read_faults_of self.new ≡ read_faults_of self.old }
         ensures write_faults { write_faults_of self.new ≡ write_faults_of self.old }
+        ensures orders { orders_of self.new ≡ orders_of self.old }
     {
         self.files.put(self.alloc, name, bytes)
     }
@@ -155,7 +158,7 @@ impl Desk {
     /// Bounds each read and each write to `n` bytes.
     pub fn chunk(&mut self, n: usize)
         requires { 0 < n }
-        ensures chunk { chunk_of self.new ≡ n }
+        ensures chunk { orders_of self.new ≡ record (orders_of self.old) { chunk = n } }
         ensures world { world_of self.new ≡ world_of self.old }
         ensures names { asked_of self.new ≡ asked_of self.old }
         ensures read_faults { read_faults_of self.new ≡ read_faults_of self.old }
@@ -166,8 +169,8 @@ impl Desk {
 
     /// Has the host call of this place fail, counted from 0 over all four methods.
     pub fn fail_call(&mut self, place: u64) -> Result<(), NoMemory>
-        ensures failing { OnOk result (failing_of self.new ≡ failing_of self.old ++ place ∷ []) }
-        ensures err { OnErr result (failing_of self.new ≡ failing_of self.old) }
+        ensures failing { OnOk result (orders_of self.new ≡ record (orders_of self.old) { failing = (orders_of self.old).failing ++ place ∷ [] }) }
+        ensures err { OnErr result (orders_of self.new ≡ orders_of self.old) }
         ensures world { world_of self.new ≡ world_of self.old }
         ensures names { asked_of self.new ≡ asked_of self.old }
         ensures read_faults { read_faults_of self.new ≡ read_faults_of self.old }
@@ -178,8 +181,7 @@ impl Desk {
 
     /// Has a port take no more than `after` bytes in all, and refuse each write once it holds so many.
     pub fn stop_port(&mut self, port: Port, after: u64)
-        ensures stop { stop_of self.new port ≡ after }
-        ensures others { (other : Port) → other ≢ port → stop_of self.new other ≡ stop_of self.old other }
+        ensures stop { orders_of self.new ≡ stopped (orders_of self.old) port after }
         ensures world { world_of self.new ≡ world_of self.old }
         ensures names { asked_of self.new ≡ asked_of self.old }
         ensures read_faults { read_faults_of self.new ≡ read_faults_of self.old }
@@ -215,14 +217,17 @@ impl Desk {
 }
 
 // Counts a host call, and says whether it is one of those that fail.
-fn fails_now(calls: &mut u64, failing: &[u64]) -> bool {
+fn fails_now(calls: &mut u64, failing: &[u64]) -> bool
+    ensures fails { IsTrue result ↔ Contains failing.now calls.old }
+    ensures calls { calls.new ≡ min (calls.old + 1) last_count }
+{
     let place = *calls;
     *calls = place.saturating_add(1);
     failing.contains(&place)
 }
 
 impl Host for Desk {
-    ghost use Rattle.mp_host.specs.Desk.{asked_of, read_faults_of, world_of, write_faults_of};
+    ghost use Rattle.mp_host.specs.Desk.{FailsNow, asked_of, called, on_port, orders_of, read_faults_of, stop_of, world_of, write_faults_of};
 
     ghost world = { world_of };
 
@@ -232,7 +237,17 @@ impl Host for Desk {
 
     ghost write_faults = { write_faults_of };
 
-    fn open_input(&mut self, name: &str) -> Result<(), Failed> {
+    fn open_input(&mut self, name: &str) -> Result<(), Failed>
+        ensures ok { OnOk result (world_of self.new ≡ opened (world_of self.old) name.now) }
+        ensures failed { OnErr result (world_of self.new ≡ world_of self.old) }
+        ensures names { Asked (asked_of self.old) (asked_of self.new) (name.now ∷ []) }
+        ensures cause { HasCause (read_faults_of self.old) (read_faults_of self.new) result }
+        ensures writes { write_faults_of self.new ≡ write_faults_of self.old }
+
+        // What the desk was told: the calls at the given places fail.
+        ensures told { OnOk result (FailsNow (orders_of self.old) → ⊥) }
+        ensures called { orders_of self.new ≡ called (orders_of self.old) }
+    {
         let failing = fails_now(&mut self.calls, self.failing.items());
         let noted = self.names.note(self.alloc, name).is_ok();
         if !failing && noted {
@@ -246,7 +261,24 @@ impl Host for Desk {
         Err(Failed)
     }
 
-    fn read(&mut self, buffer: &mut [u8]) -> Result<usize, Failed> {
+    fn read(&mut self, buffer: &mut [u8]) -> Result<usize, Failed>
+        requires room { 0 < length buffer.old }
+        requires open { (world_of self.old).is_open ≡ true }
+        ensures bound { IfOk result (λ n. n ≤ length buffer.new) }
+        ensures bytes { IfOk result (λ n. (world_of self.old).rest ≡ before_told (take n buffer.new) (world_of self.new).rest) }
+        ensures end { IfOk result (λ n. n ≡ 0 → (world_of self.new).rest ≡ emptied (world_of self.new).rest) }
+        ensures frame { OnOk result (world_of self.new ≡ record (world_of self.old) { rest = (world_of self.new).rest }) }
+        ensures failed { OnErr result (world_of self.new ≡ world_of self.old) }
+        ensures names { asked_of self.new ≡ asked_of self.old }
+        ensures cause { HasCause (read_faults_of self.old) (read_faults_of self.new) result }
+        ensures writes { write_faults_of self.new ≡ write_faults_of self.old }
+
+        // What the desk was told: no more bytes than the chunk, and just the calls at the given places fail.
+        ensures moves { IfOk result (λ n. n ≤ (orders_of self.old).chunk) }
+        ensures told { OnOk result (FailsNow (orders_of self.old) → ⊥) }
+        ensures fails { OnErr result (FailsNow (orders_of self.old)) }
+        ensures called { orders_of self.new ≡ called (orders_of self.old) }
+    {
         if fails_now(&mut self.calls, self.failing.items()) {
             self.read_faults = self.read_faults.saturating_add(1);
             return Err(Failed);
@@ -254,7 +286,17 @@ impl Host for Desk {
         Ok(self.files.read(buffer, self.chunk))
     }
 
-    fn create_map(&mut self, name: &str) -> Result<(), Failed> {
+    fn create_map(&mut self, name: &str) -> Result<(), Failed>
+        ensures ok { OnOk result (world_of self.new ≡ mapped (world_of self.old)) }
+        ensures failed { OnErr result (world_of self.new ≡ world_of self.old) }
+        ensures names { Asked (asked_of self.old) (asked_of self.new) (name.now ∷ []) }
+        ensures cause { HasCause (write_faults_of self.old) (write_faults_of self.new) result }
+        ensures reads { read_faults_of self.new ≡ read_faults_of self.old }
+
+        // What the desk was told: the calls at the given places fail.
+        ensures told { OnOk result (FailsNow (orders_of self.old) → ⊥) }
+        ensures called { orders_of self.new ≡ called (orders_of self.old) }
+    {
         let failing = fails_now(&mut self.calls, self.failing.items());
         let noted = self.names.note(self.alloc, name).is_ok();
         if failing || !noted {
@@ -266,7 +308,23 @@ impl Host for Desk {
         Ok(())
     }
 
-    fn write(&mut self, port: Port, piece: &[u8]) -> Result<usize, Failed> {
+    fn write(&mut self, port: Port, piece: &[u8]) -> Result<usize, Failed>
+        requires piece { 0 < length piece.now }
+        requires created { port ≡ Port.Map → (world_of self.old).has_map ≡ true }
+        ensures some { IfOk result (λ n. 0 < n) }
+        ensures bound { IfOk result (λ n. n ≤ length piece.now) }
+        ensures ok { IfOk result (λ n. world_of self.new ≡ sent (world_of self.old) port (take n piece.now)) }
+        ensures failed { OnErr result (world_of self.new ≡ world_of self.old) }
+        ensures names { asked_of self.new ≡ asked_of self.old }
+        ensures cause { HasCause (write_faults_of self.old) (write_faults_of self.new) result }
+        ensures reads { read_faults_of self.new ≡ read_faults_of self.old }
+
+        // What the desk was told: no more bytes than the chunk, none past the stop, and the calls at the given places fail.
+        ensures moves { IfOk result (λ n. n ≤ (orders_of self.old).chunk) }
+        ensures stops { OnOk result (IfSome (on_port (world_of self.new) port) (λ held. length held ≤ stop_of (orders_of self.old) port)) }
+        ensures told { OnOk result (FailsNow (orders_of self.old) → ⊥) }
+        ensures called { orders_of self.new ≡ called (orders_of self.old) }
+    {
         if !fails_now(&mut self.calls, self.failing.items()) {
             let poured = match port {
                 Port::Out => self.out.pour(piece, self.chunk),

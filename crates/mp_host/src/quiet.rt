@@ -1,5 +1,5 @@
-ghost use Rattle.std.specs.Prelude.{◌≡◌, ◌≢◌, ℕ, ◌<◌, List, [], Some, None, false, unwrap_or, OnOk, OnErr};
-ghost use Rattle.mp_host.specs.World.{World};
+ghost use Rattle.std.specs.Prelude.{◌≡◌, ◌≢◌, ℕ, ◌<◌, ◌≤◌, List, [], Some, None, true, false, length, take, unwrap_or, IfOk, OnOk, OnErr};
+ghost use Rattle.mp_host.specs.World.{World, before_told, emptied, last_count, sent};
 
 use crate::files::Files;
 use crate::host::{Failed, Host, Port};
@@ -31,6 +31,7 @@ impl QuietDesk {
         ensures map { (world_of result).map ≡ None }
         ensures is_open { (world_of result).is_open ≡ false }
         ensures has_map { (world_of result).has_map ≡ false }
+        ensures chunk { chunk_of result ≡ last_count }
     {
         QuietDesk {
             alloc,
@@ -47,6 +48,7 @@ impl QuietDesk {
         ensures others { (other : List ℕ) → other ≢ name.now → (world_of self.new).file other ≡ (world_of self.old).file other }
         ensures err { OnErr result (world_of self.new ≡ world_of self.old) }
         ensures frame { world_of self.new ≡ record (world_of self.old) { file = (world_of self.new).file } }
+        ensures chunk { chunk_of self.new ≡ chunk_of self.old }
     {
         self.files.put(self.alloc, name, bytes)
     }
@@ -62,7 +64,7 @@ impl QuietDesk {
 }
 
 impl Host for QuietDesk {
-    ghost use Rattle.mp_host.specs.Quiet.{world_of};
+    ghost use Rattle.mp_host.specs.Quiet.{chunk_of, world_of};
 
     ghost world = { world_of };
 
@@ -78,7 +80,17 @@ impl Host for QuietDesk {
         Ok(())
     }
 
-    fn read(&mut self, buffer: &mut [u8]) -> Result<usize, Failed> {
+    fn read(&mut self, buffer: &mut [u8]) -> Result<usize, Failed>
+        requires room { 0 < length buffer.old }
+        requires open { (world_of self.old).is_open ≡ true }
+        ensures bound { IfOk result (λ n. n ≤ length buffer.new) }
+        ensures bytes { IfOk result (λ n. (world_of self.old).rest ≡ before_told (take n buffer.new) (world_of self.new).rest) }
+        ensures end { IfOk result (λ n. n ≡ 0 → (world_of self.new).rest ≡ emptied (world_of self.new).rest) }
+        ensures frame { world_of self.new ≡ record (world_of self.old) { rest = (world_of self.new).rest } }
+        ensures never { OnErr result ⊥ }
+        ensures moves { IfOk result (λ n. n ≤ chunk_of self.old) }
+        ensures chunk { chunk_of self.new ≡ chunk_of self.old }
+    {
         Ok(self.files.read(buffer, self.chunk))
     }
 
@@ -87,7 +99,16 @@ impl Host for QuietDesk {
         Ok(())
     }
 
-    fn write(&mut self, _: Port, piece: &[u8]) -> Result<usize, Failed> {
+    fn write(&mut self, port: Port, piece: &[u8]) -> Result<usize, Failed>
+        requires piece { 0 < length piece.now }
+        requires created { port ≡ Port.Map → (world_of self.old).has_map ≡ true }
+        ensures some { IfOk result (λ n. 0 < n) }
+        ensures bound { IfOk result (λ n. n ≤ length piece.now) }
+        ensures ok { IfOk result (λ n. world_of self.new ≡ sent (world_of self.old) port (take n piece.now)) }
+        ensures never { OnErr result ⊥ }
+        ensures moves { IfOk result (λ n. n ≤ chunk_of self.old) }
+        ensures chunk { chunk_of self.new ≡ chunk_of self.old }
+    {
         Ok(piece.len().min(self.chunk))
     }
 }

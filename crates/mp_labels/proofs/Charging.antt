@@ -13,7 +13,7 @@ use Rattle.mp_logic.specs.declared.instances.Cost.{Cost}
 use Rattle.mp_logic.specs.declared.instances.Soft.{Soft}
 use Rattle.mp_logic.proofs.Members.{Contains-first, Contains-later}
 use Rattle.mp_labels.specs.LabelView.{positive, is_unit_of, charge_on, net_cost, net_costs, cancelled}
-use Rattle.mp_labels.proofs.Lists.{sum_by_add, sum_by_none, sum_by_agree, sum_by-flat_map, sum_by_one}
+use Rattle.mp_labels.proofs.Lists.{not_cond, sum_by_add, sum_by_none, sum_by_agree, sum_by-flat_map, sum_by_one}
 use Rattle.mp_labels.proofs.NormalForms.{same_from_tie, tie_itself}
 
 -- the value of a literal, where g gives the values of variables
@@ -62,10 +62,6 @@ tie-false_at g k =
           let same : k ≡ false_at g k.variable = same_parts k k.variable (not (not (g k.variable))) refl (sign_of_false (g k.variable) k.negative f) in
           ap (λ (l : Literal). is_eq (lit_cmp k l)) (sym same) ∙ (tie_itself k ∙ ap not (sym f))
     ]
-
-not_cond : (b : Bool) (w : ℕ) → cond (not b) w 0 ≡ cond b 0 w
-not_cond true w = refl
-not_cond false w = refl
 
 at_variable : (g : ℕ → Bool) (k : Literal) (w v : ℕ) → cond (is_eq (lit_cmp k (false_at g v))) w 0 ≡ cond (nat_eq k.variable v) (cond (valued g k) 0 w) 0
 at_variable g k w v =

@@ -1,6 +1,7 @@
 -- Soft clauses with labels: what their models pay, and how a model gets the labels' values.
 use Rattle.std.proofs.Common.{◌≡◌, ◌≤◌, ◌+◌, ◌-◌, ◌||◌, ℕ, Bool, true, false, not, cond, IsTrue, List, [], ◌∷◌, ◌++◌, Contains, get_or, length, map, sum_by, refl, ap, sym, ◌∙◌, subst, arith}
 use Rattle.std.specs.List.{range_with_len}
+use Rattle.std.proofs.Math.Bool.{or-false, or-not_self}
 use Rattle.std.proofs.lemmas.Bool.{false≢true}
 use Rattle.std.proofs.lemmas.List.{append_assoc, get_or_at, get_or_append_left, length_push}
 use Rattle.std.proofs.lemmas.List.FromFn.{get_or-map-range_with_len, length-map-range_with_len}
@@ -14,10 +15,10 @@ use Rattle.mp_logic.specs.declared.instances.Cost.{Cost}
 use Rattle.mp_logic.specs.declared.instances.Soft.{Soft}
 use Rattle.mp_logic.proofs.Members.{Contains-first, Contains-later}
 use Rattle.mp_labels.specs.LabelView.{positive, label_clauses, label_costs}
-use Rattle.mp_labels.proofs.Marks.{or_false}
+use Rattle.mp_labels.proofs.Lists.{not_cond}
 
 pub clause_value-push : (a : List Bool) (c : List Literal) (l : Literal) → clause_value a (c ++ l ∷ []) ≡ (clause_value a c || literal_value a l)
-clause_value-push a c l = list_any-append (literal_value a) c (l ∷ []) ∙ ap (λ b. clause_value a c || b) (or_false (literal_value a l))
+clause_value-push a c l = list_any-append (literal_value a) c (l ∷ []) ∙ ap (λ b. clause_value a c || b) (or-false (literal_value a l))
 
 pub clause_value-agree : (a b : List Bool) (c : List Literal) → ((l : Literal) → Contains c l → literal_value a l ≡ literal_value b l) → clause_value a c ≡ clause_value b c
 clause_value-agree a b [] h = refl
@@ -47,14 +48,6 @@ abbrev pub AreLabels : List Bool → List Bool → ℕ → List Soft → Type 0
 AreLabels a b n [] = Unit {0}
 AreLabels a b n (s ∷ ls) = (value_of b (n + 1) ≡ not (clause_value a s.clause)) × AreLabels a b (n + 1) ls
 
-or_not : (x : Bool) → (x || not x) ≡ true
-or_not true = refl
-or_not false = refl
-
-not_cond : (x : Bool) (w : ℕ) → cond (not x) w 0 ≡ cond x 0 w
-not_cond true w = refl
-not_cond false w = refl
-
 pub labels_satisfied : (a b : List Bool) (n : ℕ) (ls : List Soft) → AreLabels a b n ls → ((s : Soft) → Contains ls s → clause_value b s.clause ≡ clause_value a s.clause) → IsSatisfied b (label_clauses n ls)
 labels_satisfied a b n [] h same = All-nil (λ (c : List Literal). IsTrue (clause_value b c))
 labels_satisfied a b n (s ∷ ls) h same =
@@ -62,7 +55,7 @@ labels_satisfied a b n (s ∷ ls) h same =
     let label = positive (n + 1) in
     let x = clause_value a s.clause in
     let own : clause_value b (s.clause ++ label ∷ []) ≡ true =
-    clause_value-push b s.clause label ∙ (ap (λ y. y || literal_value b label) (same s (Contains-first s ls)) ∙ (ap (λ y. x || y) h.0 ∙ or_not x)) in
+    clause_value-push b s.clause label ∙ (ap (λ y. y || literal_value b label) (same s (Contains-first s ls)) ∙ (ap (λ y. x || y) h.0 ∙ or-not_self x)) in
     All-cons P (s.clause ++ label ∷ []) (label_clauses (n + 1) ls) own (labels_satisfied a b (n + 1) ls h.1 (λ t i. same t (Contains-later s ls t i)))
 
 pub labels_charged : (a b : List Bool) (n : ℕ) (ls : List Soft) → AreLabels a b n ls → sum_by (charged b) (label_costs n ls) ≡ sum_by (paid a) ls

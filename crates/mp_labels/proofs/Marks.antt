@@ -2,6 +2,7 @@
 use Rattle.std.proofs.Common.{◌≡◌, ◌<◌, ◌≤◌, ◌+◌, ◌-◌, ◌||◌, ℕ, zero, suc, Bool, true, false, cond, List, [], ◌∷◌, ◌++◌, Contains, get_or, set, length, take, filter, replicate, refl, ap, sym, ◌∙◌, arith, inl, inr}
 use Rattle.std.specs.Prelude.{nat_eq}
 use Rattle.std.specs.List.{list_any, range_with_len}
+use Rattle.std.proofs.Math.Bool.{or-true, or-false, or_assoc}
 use Rattle.std.proofs.lemmas.Bool.{cases_eq, eq-eqb, ne_eqb}
 use Rattle.std.proofs.lemmas.List.{get_or-set_same, get_or-set_other}
 use Rattle.std.proofs.lemmas.List.Folds.{list_any_more}
@@ -11,26 +12,14 @@ use Rattle.mp_logic.specs.Keeping.{State}
 use Rattle.mp_labels.specs.UnitForm.{is_used, names_of}
 use Rattle.mp_labels.proofs.Lists.{range_with_len_more, filter_agree_at, Contains-from_range}
 
-or_true : (b : Bool) → (b || true) ≡ true
-or_true true = refl
-or_true false = refl
-
-pub or_false : (b : Bool) → (b || false) ≡ b
-or_false true = refl
-or_false false = refl
-
-pub or_assoc : (a b c : Bool) → ((a || b) || c) ≡ (a || (b || c))
-or_assoc true b c = refl
-or_assoc false b c = refl
-
 pub value_of-marked : (used : List Bool) (u v : ℕ) → 1 ≤ u → u ≤ length used → 1 ≤ v → value_of (set used (u - 1) true) v ≡ (value_of used v || nat_eq u v)
 value_of-marked used u v a b c =
     elim (cases_eq u v) [
       | inl e ↦
           let same : get_or (set used (u - 1) true) (v - 1) false ≡ true = ap (λ w. get_or (set used (u - 1) true) (w - 1) false) (sym e) ∙ get_or-set_same used (u - 1) true false (omega arith) in
-          same ∙ sym (ap (λ t. value_of used v || t) (eq-eqb u v e) ∙ or_true (value_of used v))
+          same ∙ sym (ap (λ t. value_of used v || t) (eq-eqb u v e) ∙ or-true (value_of used v))
       | inr n ↦
-          get_or-set_other used (u - 1) (v - 1) true false (λ e. n (omega arith)) ∙ sym (ap (λ t. value_of used v || t) (ne_eqb u v n) ∙ or_false (value_of used v))
+          get_or-set_other used (u - 1) (v - 1) true false (λ e. n (omega arith)) ∙ sym (ap (λ t. value_of used v || t) (ne_eqb u v n) ∙ or-false (value_of used v))
     ]
 
 -- one more of the list: what was marked before or by the front, or is by the next one
@@ -40,7 +29,7 @@ marked_more p xs i d l old now next e f =
     f ∙ (ap (λ t. t || p (get_or xs i d)) e ∙ (or_assoc old (list_any p (take i xs)) (p (get_or xs i d)) ∙ ap (λ t. old || t) (sym (list_any_more p xs i d l))))
 
 pub none_marked : (b : Bool) → b ≡ (b || false)
-none_marked b = sym (or_false b)
+none_marked b = sym (or-false b)
 
 pub filter-range_more : (p : ℕ → Bool) (a n : ℕ) → filter p (range_with_len a (n + 1)) ≡ filter p (range_with_len a n) ++ filter p ((a + n) ∷ [])
 filter-range_more p a n = ap (filter p) (range_with_len_more a n) ∙ filter-append p (range_with_len a n) ((a + n) ∷ [])

@@ -3,7 +3,8 @@ use Rattle.std.proofs.Common.{◌≡◌, ◌<◌, ◌≤◌, ◌+◌, ◌-◌, �
 use Rattle.std.specs.Prelude.{nat_eq}
 use Rattle.std.specs.List.{list_any, range_with_len}
 use Rattle.std.proofs.lemmas.Bool.{or_left, or_right, or_cases, eq-eqb, eqb-true, true≢false, false≢true}
-use Rattle.std.proofs.lemmas.List.{length-replicate, nil_from_length}
+use Rattle.std.proofs.lemmas.List.{length-map, length-replicate, nil_from_length}
+use Rattle.std.proofs.lemmas.List.Folds.{Any-from_list_any, list_any_at}
 use Rattle.std.proofs.lemmas.List.Elements.{All-contains, Contains-get_or}
 use Rattle.std.proofs.lemmas.List.Sorted.{IsPermutation-sym, Contains-permutation, sum_by-IsPermutation}
 use Rattle.mp_logic.specs.Literal.{Literal, IsUpTo, negation}
@@ -17,25 +18,15 @@ use Rattle.mp_logic.specs.declared.instances.Cost.{Cost}
 use Rattle.mp_logic.specs.declared.instances.Soft.{Soft}
 use Rattle.mp_logic.proofs.Members.{Contains-none, Contains-first, Contains-later, Contains-cases, Contains-one, All-from_contained, satisfied}
 use Rattle.mp_labels.specs.UnitForm.{has_variable, has_cost, is_used, names_of, number_of, renamed, soft_of, IsUnitForm, IsPlainForm, Occurs, refuted_form}
-use Rattle.mp_labels.proofs.Lists.{Contains-map, Contains-from_map, sum_by-map, length_map, Contains-filter, Contains-from_filter, Contains-range}
+use Rattle.mp_labels.proofs.Lists.{Contains-map, Contains-from_map, sum_by-map, Contains-filter, Contains-from_filter, Contains-range}
 use Rattle.mp_labels.proofs.Numbers.{filter-range_rises, named_at, number_bounds, number_at_place}
 use Rattle.mp_labels.proofs.Renaming.{AgreesUnder, AreNamed, AgreesUnder-values, satisfied-renamed, satisfied-from_renamed, costs-renamed}
 
-pub any_by : {X : Type 0} (p : X → Bool) (xs : List X) (x : X) → Contains xs x → p x ≡ true → list_any p xs ≡ true
-any_by p [] x h t = absurd (Contains-none x h)
-any_by p (z ∷ xs) x h t =
-    elim (Contains-cases z xs x h) [
-      | inl e ↦ or_left (p z) (list_any p xs) (ap p (sym e) ∙ t)
-      | inr i ↦ or_right (p z) (list_any p xs) (any_by p xs x i t)
-    ]
+any_by : {X : Type 0} (p : X → Bool) (xs : List X) (x : X) → Contains xs x → p x ≡ true → list_any p xs ≡ true
+any_by p xs x h t = list_any_at p xs h.0 x h.1 (ap p h.2 ∙ t)
 
-pub any_from : {X : Type 0} (p : X → Bool) (xs : List X) → list_any p xs ≡ true → (x : X) × Contains xs x × (p x ≡ true)
-any_from p [] h = absurd (false≢true h)
-any_from p (z ∷ xs) h =
-    elim (or_cases (p z) (list_any p xs) h) [
-      | inl t ↦ (z, Contains-first z xs, t)
-      | inr t ↦ let w = any_from p xs t in (w.0, Contains-later z xs w.0 w.1, w.2)
-    ]
+any_from : {X : Type 0} (p : X → Bool) (xs : List X) → list_any p xs ≡ true → (x : X) × Contains xs x × (p x ≡ true)
+any_from p xs h = let w = Any-from_list_any p xs h in (w.1, (w.0, w.2, w.3), w.4)
 
 pub names_rising : (s : State) → IsTrue (names_rise 0 s.vars (names_of s))
 names_rising s = filter-range_rises (is_used s) 1 s.vars 0 s.vars (omega arith) (omega arith)
@@ -126,7 +117,7 @@ no_units_units s w u h =
     All-from_contained (λ (c : List Literal). 2 ≤ length c) (formula_of w).hard (λ d i.
     let k = hard_origin s w u d i in
     let long : 2 ≤ length k.0 = All-contains (λ (c : List Literal). 2 ≤ length c) s.hard k.0 h k.1 in
-    omega (arith, long, ap length k.2, length_map (renamed (names_of s)) k.0))
+    omega (arith, long, ap length k.2, length-map k.0 (renamed (names_of s))))
 
 pub weighed_units : (s : State) (w : WrittenForm) → IsLabelled s.vars s.hard s.costs s.offset → IsUnitForm s w → All (λ t. 1 ≤ t.weight) (formula_of w).soft
 weighed_units s w h u =

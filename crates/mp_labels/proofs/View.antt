@@ -2,6 +2,7 @@
 use Rattle.std.proofs.Common.{◌≡◌, ◌≤◌, ◌+◌, ◌&&◌, ℕ, Bool, true, false, not, cond, IsTrue, List, [], ◌∷◌, ◌++◌, All, Contains, length, map, filter, sum_by, refl, ap, sym, ◌∙◌, subst, arith, inl, inr}
 use Rattle.std.specs.Prelude.{nat_eq, nat_le, nat_lt}
 use Rattle.std.specs.List.{range_with_len}
+use Rattle.std.proofs.Math.Bool.{or-false}
 use Rattle.std.proofs.lemmas.Bool.{cases_Bool, ltb-false, le-leb, ne_eqb, and_cases, cond_both}
 use Rattle.std.proofs.lemmas.List.Elements.{All-contains, All-append, Contains-append_left, Contains-append_right}
 use Rattle.std.proofs.lemmas.List.Sums.{sum_by-append}
@@ -16,7 +17,6 @@ use Rattle.mp_logic.specs.declared.instances.Soft.{Soft}
 use Rattle.mp_logic.proofs.Members.{satisfied, IsSatisfied-from, sum_by_le}
 use Rattle.mp_labels.specs.LabelView.{normal_form, normal_clauses, normal_soft, payable, long_softs, label_clauses, label_costs, empty_weight, net_costs, charge_on, label_view}
 use Rattle.mp_labels.proofs.Lists.{Contains-map, Contains-from_map, Contains-filter, Contains-from_filter, Contains-from_range, sum_by-map, sum_by_agree, sum_by_add, sum_by-filter}
-use Rattle.mp_labels.proofs.Marks.{or_false}
 use Rattle.mp_labels.proofs.NormalForms.{from_normal_form, clause_value-normal_form, tautology_true}
 use Rattle.mp_labels.proofs.Charging.{IsIn, unit_paid, true_at, charges_are_paid, charged_net, weighed_net, dearer}
 use Rattle.mp_labels.proofs.LabelClauses.{clause_value-agree, labels_paid, labels_satisfied, labels_charged, label_weights, extended, AreLabels-extended, value_of-extended}
@@ -72,7 +72,7 @@ payable_weights ss =
 shape : (a : List Bool) (c : List Literal) (w : ℕ)
     → cond (clause_value a c) 0 w ≡ cond (nat_eq (length c) 0) w 0 + unit_paid (value_of a) c w + cond (nat_le 2 (length c)) (cond (clause_value a c) 0 w) 0
 shape a [] w = omega arith
-shape a (k ∷ []) w = ap (λ x. cond x 0 w) (or_false (literal_value a k)) ∙ omega arith
+shape a (k ∷ []) w = ap (λ x. cond x 0 w) (or-false (literal_value a k)) ∙ omega arith
 shape a (k ∷ (j ∷ c)) w =
     let n = length (k ∷ (j ∷ c)) in
     let x = cond (clause_value a (k ∷ (j ∷ c))) 0 w in

@@ -1,7 +1,8 @@
 -- What private functions say of a label view that is being made; no public clause cites these.
-use Rattle.std.specs.Prelude.{◌≡◌, ℕ, ◌+◌, ◌<◌, ◌^◌, List, [], ◌∷◌, ◌++◌, filter, length, nat_le, nat_eq, sum_by, if◌then◌else◌}
+use Rattle.std.specs.Prelude.{◌≡◌, ℕ, ◌+◌, ◌<◌, List, [], ◌∷◌, ◌++◌, filter, length, nat_le, nat_eq, sum_by, if◌then◌else◌}
 use Rattle.mp_logic.specs.Literal.{Literal, negation}
 use Rattle.mp_logic.specs.Formula.{Formula}
+use Rattle.mp_logic.specs.Weights.{weight_bound}
 use Rattle.mp_logic.specs.declared.instances.Soft.{Soft}
 use Rattle.mp_labels.specs.declared.draft.Draft.{Draft}
 use Rattle.mp_labels.specs.LabelView.{normal_clauses, long_softs, label_clauses, label_costs, is_unit_of, charge_on, empty_weight}
@@ -17,8 +18,8 @@ pub record Completes (f : Formula) (ps : List Soft) (d : Draft) : Type 0 where
 
 -- the weight can be added where the clause wants it
 pub record HasRoom (d : Draft) (c : List Literal) (weight : ℕ) : Type 0 where
-  pub offset : c ≡ [] → d.offset + weight < 2 ^ 64
-  pub charge : (l : Literal) → c ≡ l ∷ [] → charge_in d.charges.entries (negation l) + weight < 2 ^ 64
+  pub offset : c ≡ [] → d.offset + weight < weight_bound
+  pub charge : (l : Literal) → c ≡ l ∷ [] → charge_in d.charges.entries (negation l) + weight < weight_bound
 
 -- what was to be completed with the clause is to be completed without it
 abbrev pub Passes : Draft → List Literal → ℕ → Draft → Type 0

@@ -1,10 +1,11 @@
-ghost use Rattle.std.specs.Prelude.{◌≡◌, ◌+◌, ◌-◌, ◌<◌, ◌^◌, All, IfOk, OnOk, min, nat_eq, sum_by, if◌then◌else◌};
+ghost use Rattle.std.specs.Prelude.{◌≡◌, ◌+◌, ◌-◌, ◌<◌, All, IfOk, OnOk, min, nat_eq, sum_by, if◌then◌else◌};
 ghost use Rattle.std.specs.List.{flat_map, IsDistinct};
 ghost use Rattle.std.specs.Map.{keys_of};
 ghost use Rattle.std.specs.Option.{option_to_list};
 ghost use Rattle.std.specs.Ordering.{is_eq};
 ghost use Rattle.mp_logic.specs.Literal.{Literal};
 ghost use Rattle.mp_logic.specs.Normal.{lit_cmp};
+ghost use Rattle.mp_logic.specs.Weights.{weight_bound};
 ghost use Rattle.mp_labels.specs.Charges.{charge_in, HasVariable, net_of, IsRisingOf};
 
 use indexmap::IndexMap;
@@ -23,7 +24,7 @@ pub(crate) type Charges = IndexMap<u32, Charge>;
 
 /// Charges a weight on a literal, to be paid where it is true.
 pub(crate) fn add_charge(charges: &mut Charges, lit: Lit, weight: Weight) -> Result<(), NoMemory>
-    requires { charge_in charges.old.entries lit + weight < 2 ^ 64 }
+    requires { charge_in charges.old.entries lit + weight < weight_bound }
     ensures { OnOk result ((l : Literal) → charge_in charges.new.entries l ≡ charge_in charges.old.entries l + (if is_eq (lit_cmp l lit) then weight else 0)) }
 {
     let had = charges.get(&lit.variable).copied().unwrap_or(Charge {
@@ -102,7 +103,7 @@ fn net_cost(entry: (u32, Charge)) -> Option<Cost>
 
 /// What is paid in any case: the lower of the two charges of each variable.
 pub(crate) fn cancelled(entries: &[(u32, Charge)]) -> Weight
-    requires { sum_by (λ e. min e.1.when_true e.1.when_false) entries.now < 2 ^ 64 }
+    requires { sum_by (λ e. min e.1.when_true e.1.when_false) entries.now < weight_bound }
     ensures { result ≡ sum_by (λ e. min e.1.when_true e.1.when_false) entries.now }
 {
     let mut total = 0;

@@ -87,7 +87,7 @@ fn normal_clauses(alloc: Global, clauses: &Clauses) -> Result<Clauses, NoMemory>
 {
     let mut made = Clauses::new(alloc);
     for clause in clauses.items() {
-        let mut normal = Clause::from_vec(Vec::with_capacity(alloc, clause.len())?);
+        let mut normal = Clause::with_room(alloc, clause.len())?;
         put_normal_form(&mut normal, clause)?;
         if is_normal(&normal) {
             made.push(normal)?;

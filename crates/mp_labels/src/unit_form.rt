@@ -97,7 +97,7 @@ fn renamed(alloc: Global, labelled: &Labelled) -> Result<Written, NoMemory>
 fn unit(alloc: Global, lit: Lit) -> Result<Clause, NoMemory>
     ensures { IfOk result (λ made. made ≡ lit ∷ []) }
 {
-    Ok(Clause::from_vec(vec![in alloc; lit]?))
+    Clause::from_slice(alloc, &[lit])
 }
 
 // The clauses under the numbers of their variables, in the order of clauses.
@@ -122,12 +122,12 @@ fn renumbered_clause(alloc: Global, numbers: &[u32], row: &ClauseRow) -> Result<
     ensures { IfOk result (λ made. made ≡ map (by_number numbers.now) row.now.clause.now) }
 {
     let len = row.clause.len();
-    let mut made = Vec::with_capacity(alloc, len)?;
+    let mut made = Clause::with_room(alloc, len)?;
     for place in 0..len {
         let lit = literal_at(row, place);
         made.push(renumbered_lit(numbers, lit))?;
     }
-    Ok(Clause::from_vec(made))
+    Ok(made)
 }
 
 fn renumbered_lit(numbers: &[u32], lit: Lit) -> Lit

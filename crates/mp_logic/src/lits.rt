@@ -1,6 +1,7 @@
 ghost use Rattle.std.specs.Prelude.{◌≡◌, ◌≤◌};
 ghost use Rattle.mp_logic.specs.Literal.{negation};
 
+use crate::clauses::Clause;
 use crate::lists::{Copied, ListOf, NoMemory};
 use std::alloc::Global;
 use std::marker::Model;
@@ -24,9 +25,6 @@ impl Model for Lit {
 
     ghost inverse = { λ l. record { variable = l.variable; negative = l.negative } };
 }
-
-/// A disjunction of literals; without literals it is false.
-pub type Clause = ListOf<Lit>;
 
 /// A list of clauses.
 pub type Clauses = ListOf<Clause>;
@@ -54,6 +52,16 @@ impl Lit {
         Lit {
             variable: self.variable,
             negative: !self.negative,
+        }
+    }
+}
+
+/// The first variable, which fills the unused places of small vectors.
+impl Default for Lit {
+    fn default() -> Lit {
+        Lit {
+            variable: 1,
+            negative: false,
         }
     }
 }

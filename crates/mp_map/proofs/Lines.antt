@@ -6,7 +6,8 @@ use Rattle.std.proofs.lemmas.Bool.{and_parts, and_from, leb-true, leb-false, fal
 use Rattle.std.proofs.lemmas.List.{take_at}
 use Rattle.std.proofs.lemmas.List.Sums.{sum_by-append}
 use Rattle.mp_text.specs.Tokens.{ends_line}
-use Rattle.mp_map.specs.Faults.{BeginsSpelling, IsFirstFault, line_behind, end_line}
+use Rattle.mp_text.specs.Lines.{line_behind, end_line}
+use Rattle.mp_map.specs.Faults.{BeginsSpelling, IsFirstFault}
 use Rattle.mp_map.proofs.Texts.{lacks}
 
 -- the longer of two fronts of one list goes on from the shorter

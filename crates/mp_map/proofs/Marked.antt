@@ -7,65 +7,15 @@ use Rattle.std.specs.Prelude.{nat_eq, nat_lt}
 use Rattle.std.proofs.lemmas.Bool.{eqb-true, eqb-false, ne_eqb, ltb-false}
 use Rattle.std.proofs.lemmas.List.{append-nil, length-map}
 use Rattle.std.proofs.lemmas.List.Folds.{list_any-append}
-use Rattle.std.proofs.lemmas.Option.{none-some}
-use Rattle.mp_text.specs.Numbers.{literal_of, positive, negative, at_most, greatest, natural_of}
+use Rattle.std.proofs.Math.Bool.{or-false, or-true, and-false, and-true}
+use Rattle.mp_text.specs.Numbers.{literal_of}
 use Rattle.mp_text.specs.declared.numbers.LitToken.{LitToken}
 use Rattle.mp_text.specs.declared.numbers.LitToken.TheVariants as kinds
+use Rattle.mp_text.proofs.Spelled.{literal_from_one}
 use Rattle.mp_map.specs.Marking.{Marks, no_marks, marked, marked_apart, mark_with, mark_words}
 use Rattle.mp_map.specs.Solutions.{ValueWord, first_wrong_word, is_literal, is_wrong_word, literals_in, mentions, variables_from}
 
--- a literal's variable is at least 1
-
-close_lit : (v : ℕ) (n : Bool) → Some kinds.Close ≡ Some (kinds.Lit v n) → ⊥
-close_lit v n e = cc
-
-same_lit : (v u : ℕ) (n m : Bool) → Some (kinds.Lit v n) ≡ Some (kinds.Lit u m) → v ≡ u
-same_lit v u n m e = cc
-
-from_zero : (k v : ℕ) (n m : Bool) (z : Option LitToken) → ((z ≡ Some (kinds.Lit v n)) → ⊥) → cond (nat_eq k 0) z (Some (kinds.Lit k m)) ≡ Some (kinds.Lit v n) → 1 ≤ v
-from_zero k v n m z never h =
-    let step : (t : Bool) → nat_eq k 0 ≡ t → cond t z (Some (kinds.Lit k m)) ≡ Some (kinds.Lit v n) → 1 ≤ v =
-    λ (t : Bool). elim t as (λ t. nat_eq k 0 ≡ t → cond t z (Some (kinds.Lit k m)) ≡ Some (kinds.Lit v n) → 1 ≤ v) [
-      | true ↦ λ e f. absurd (never f)
-      | false ↦ λ e f. let same : k ≡ v = same_lit k v m n f in let some : k ≢ 0 = eqb-false k 0 e in omega (arith, same, some)
-    ] in
-    step (nat_eq k 0) refl h
-
-positive_one : (o : Option ℕ) (v : ℕ) (n : Bool) → positive o ≡ Some (kinds.Lit v n) → 1 ≤ v
-positive_one None v n h = absurd (none-some (kinds.Lit v n) h)
-positive_one (Some k) v n h = from_zero k v n false (Some kinds.Close) (close_lit v n) h
-
-negative_one : (o : Option ℕ) (v : ℕ) (n : Bool) → negative o ≡ Some (kinds.Lit v n) → 1 ≤ v
-negative_one None v n h = absurd (none-some (kinds.Lit v n) h)
-negative_one (Some k) v n h = from_zero k v n true None (none-some (kinds.Lit v n)) h
-
-pub literal_from_one : (text : List ℕ) (v : ℕ) (n : Bool) → literal_of text ≡ Some (kinds.Lit v n) → 1 ≤ v
-literal_from_one [] v n h = absurd (none-some (kinds.Lit v n) h)
-literal_from_one (b ∷ bs) v n h =
-    let step : (t : Bool) → cond t (negative (at_most greatest (natural_of bs))) (positive (at_most greatest (natural_of (b ∷ bs)))) ≡ Some (kinds.Lit v n) → 1 ≤ v =
-    λ (t : Bool). elim t as (λ t. cond t (negative (at_most greatest (natural_of bs))) (positive (at_most greatest (natural_of (b ∷ bs)))) ≡ Some (kinds.Lit v n) → 1 ≤ v) [
-      | true ↦ λ e. negative_one (at_most greatest (natural_of bs)) v n e
-      | false ↦ λ e. positive_one (at_most greatest (natural_of (b ∷ bs))) v n e
-    ] in
-    step (nat_eq b 45) h
-
 -- lists with a place for each variable
-
-or_false : (b : Bool) → (b || false) ≡ b
-or_false true = refl
-or_false false = refl
-
-or_true : (b : Bool) → (b || true) ≡ true
-or_true true = refl
-or_true false = refl
-
-and_false : (b : Bool) → (b && false) ≡ false
-and_false true = refl
-and_false false = refl
-
-and_true : (b : Bool) → (b && true) ≡ b
-and_true true = refl
-and_true false = refl
 
 map_same : (f g : ℕ → Bool) → ((u : ℕ) → f u ≡ g u) → (xs : List ℕ) → map f xs ≡ map g xs
 map_same f g h [] = refl
@@ -80,7 +30,7 @@ map_apart : (f : ℕ → Bool) (a n v : ℕ) → v < a → map (λ u. f u || nat
 map_apart f a zero v h = refl
 map_apart f a (suc n) v h =
     let other : nat_eq v a ≡ false = ne_eqb v a (λ z. omega (arith, h, z)) in
-    ap₂ (λ (b : Bool) (l : List Bool). b ∷ l) (ap (λ (t : Bool). f a || t) other ∙ or_false (f a)) (map_apart f (a + 1) n v (omega (arith, h)))
+    ap₂ (λ (b : Bool) (l : List Bool). b ∷ l) (ap (λ (t : Bool). f a || t) other ∙ or-false (f a)) (map_apart f (a + 1) n v (omega (arith, h)))
 
 set_variable : (f : ℕ → Bool) (a n v : ℕ) → a ≤ v → v < a + n → slice_set (map f (variables_from a n)) (v - a) true ≡ map (λ u. f u || nat_eq v u) (variables_from a n)
 set_variable f a zero v low high = absurd (omega (arith, low, high))
@@ -92,12 +42,12 @@ set_variable f a (suc n) v low high =
           let same : v ≡ a = eqb-true v a e in
           let none : v - a ≡ 0 = omega (arith, same) in
           ap (λ (k : ℕ). slice_set (f a ∷ map f rest) k true) none
-          ∙ sym (ap₂ (λ (b : Bool) (l : List Bool). b ∷ l) (ap (λ (t : Bool). f a || t) e ∙ or_true (f a)) (map_apart f (a + 1) n v (omega (arith, same))))
+          ∙ sym (ap₂ (λ (b : Bool) (l : List Bool). b ∷ l) (ap (λ (t : Bool). f a || t) e ∙ or-true (f a)) (map_apart f (a + 1) n v (omega (arith, same))))
       | false ↦ λ e.
           let other : v ≢ a = eqb-false v a e in
           let later : v - a ≡ suc (v - (a + 1)) = omega (arith, low, other) in
           ap (λ (k : ℕ). slice_set (f a ∷ map f rest) k true) later
-          ∙ ap₂ (λ (b : Bool) (l : List Bool). b ∷ l) (sym (ap (λ (t : Bool). f a || t) e ∙ or_false (f a))) (set_variable f (a + 1) n v (omega (arith, low, other)) (omega (arith, high)))
+          ∙ ap₂ (λ (b : Bool) (l : List Bool). b ∷ l) (sym (ap (λ (t : Bool). f a || t) e ∙ or-false (f a))) (set_variable f (a + 1) n v (omega (arith, low, other)) (omega (arith, high)))
     ] in
     step (nat_eq v a) refl
 
@@ -135,14 +85,14 @@ no_mentions a (suc n) sign = ap (λ (l : List Bool). false ∷ l) (no_mentions (
 mentions-more : (before : List ValueWord) (w : ValueWord) (o : Option LitToken) → literal_of w.text ≡ o → (v : ℕ) (sign : Bool) → mentions (before ++ w ∷ []) v sign ≡ (mentions before v sign || is_literal v sign o)
 mentions-more before w o e v sign =
     list_any-append (λ w. is_literal v sign (literal_of w.text)) before (w ∷ [])
-    ∙ ap (λ (b : Bool). mentions before v sign || b) (or_false (is_literal v sign (literal_of w.text)) ∙ ap (is_literal v sign) e)
+    ∙ ap (λ (b : Bool). mentions before v sign || b) (or-false (is_literal v sign (literal_of w.text)) ∙ ap (is_literal v sign) e)
 
 -- a word that is no literal of this sign changes no mark of it
 unchanged : (written : ℕ) (before : List ValueWord) (w : ValueWord) (o : Option LitToken) (sign : Bool) → literal_of w.text ≡ o → ((v : ℕ) → is_literal v sign o ≡ false)
     → signed_marks written before sign ≡ signed_marks written (before ++ w ∷ []) sign
 unchanged written before w o sign e none =
     map_same (λ v. mentions before v sign) (λ v. mentions (before ++ w ∷ []) v sign)
-    (λ v. sym (mentions-more before w o e v sign ∙ ap (λ (b : Bool). mentions before v sign || b) (none v) ∙ or_false (mentions before v sign))) (variables_from 1 written)
+    (λ v. sym (mentions-more before w o e v sign ∙ ap (λ (b : Bool). mentions before v sign || b) (none v) ∙ or-false (mentions before v sign))) (variables_from 1 written)
 
 beq_same : (b : Bool) → beq b b ≡ true
 beq_same true = refl
@@ -158,7 +108,7 @@ changed : (written : ℕ) (before : List ValueWord) (w : ValueWord) (v : ℕ) (s
 changed written before w v sign e one few =
     set_variable (λ u. mentions before u sign) 1 written v one (omega (arith, few))
     ∙ map_same (λ u. mentions before u sign || nat_eq v u) (λ u. mentions (before ++ w ∷ []) u sign)
-    (λ u. sym (mentions-more before w (Some (kinds.Lit v sign)) e u sign ∙ ap (λ (b : Bool). mentions before u sign || b) (ap (λ (t : Bool). nat_eq v u && t) (beq_same sign) ∙ and_true (nat_eq v u)))) (variables_from 1 written)
+    (λ u. sym (mentions-more before w (Some (kinds.Lit v sign)) e u sign ∙ ap (λ (b : Bool). mentions before u sign || b) (ap (λ (t : Bool). nat_eq v u && t) (beq_same sign) ∙ and-true (nat_eq v u)))) (variables_from 1 written)
 
 -- a mark is refused just where the word can't stand
 apart_is : (written : ℕ) (before : List ValueWord) (v : ℕ) (sign : Bool) → 1 ≤ v
@@ -207,10 +157,10 @@ mark_step written before w (Some kinds.Close) e =
     ap₂ (λ (p q : List Bool). let m : Marks = record { positive = p; negative = q } in Some m) (unchanged written before w (Some kinds.Close) false e (λ v. refl)) (unchanged written before w (Some kinds.Close) true e (λ v. refl))
 mark_step written before w (Some (kinds.Lit v true)) e =
     mark_literal written before w v true (λ own. record { positive = signed_marks written before false; negative = own }) e (literal_from_one w.text v true e)
-    (ap (λ (p : List Bool). let m : Marks = record { positive = p; negative = signed_marks written (before ++ w ∷ []) true } in m) (unchanged written before w (Some (kinds.Lit v true)) false e (λ u. and_false (nat_eq v u))))
+    (ap (λ (p : List Bool). let m : Marks = record { positive = p; negative = signed_marks written (before ++ w ∷ []) true } in m) (unchanged written before w (Some (kinds.Lit v true)) false e (λ u. and-false (nat_eq v u))))
 mark_step written before w (Some (kinds.Lit v false)) e =
     mark_literal written before w v false (λ own. record { positive = own; negative = signed_marks written before true }) e (literal_from_one w.text v false e)
-    (ap (λ (q : List Bool). let m : Marks = record { positive = signed_marks written (before ++ w ∷ []) false; negative = q } in m) (unchanged written before w (Some (kinds.Lit v false)) true e (λ u. and_false (nat_eq v u))))
+    (ap (λ (q : List Bool). let m : Marks = record { positive = signed_marks written (before ++ w ∷ []) false; negative = q } in m) (unchanged written before w (Some (kinds.Lit v false)) true e (λ u. and-false (nat_eq v u))))
 
 abbrev answer_of : Option ℕ → Marks → Result Marks ℕ
 answer_of None m = Ok m

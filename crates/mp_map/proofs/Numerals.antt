@@ -1,18 +1,15 @@
 -- Numbers in their one spelling are read as they are written.
-use Rattle.std.proofs.Common.{◌≡◌, ◌≢◌, ◌≤◌, ◌<◌, ◌^◌, ℕ, zero, suc, Bool, true, false, List, [], ◌∷◌, length, get_or, Some, None, refl, ap, subst, sym, ◌∙◌, arith, if◌then◌else◌, rules}
+use Rattle.std.proofs.Common.{◌≡◌, ◌≢◌, ◌≤◌, ◌<◌, ℕ, zero, suc, Bool, true, false, List, [], ◌∷◌, length, get_or, Some, None, refl, ap, subst, sym, ◌∙◌, arith, if◌then◌else◌}
 use Rattle.std.specs.Prelude.{nat_le, nat_lt, nat_eq, ◌&&◌}
 use Rattle.std.specs.List.{slice_index}
 use Rattle.mp_map.specs.Reading.{exact_of}
 use Rattle.std.specs.Str.{all_ascii_digits}
 use Rattle.std.specs.Fmt.{decimal}
-use Rattle.std.proofs.lemmas.Str.Parse.{IsNumeralModel, numerals_by_fold}
-use Rattle.std.proofs.lemmas.Fmt.{decimal-digits_value, digits_decimal, digits_value-decimal, first_decimal, decimal_nonempty, decimal_digit}
+use Rattle.std.proofs.lemmas.Fmt.{decimal_digit}
 use Rattle.std.proofs.lemmas.Option.{none-some, cond_some}
 use Rattle.std.proofs.lemmas.Bool.{leb-true, le-leb, lt-ltb, true≢false, eqb-true}
-use Rattle.mp_text.specs.Numbers.{value_after, natural_of, at_most}
-
-pub own : IsNumeralModel (λ ds. all_ascii_digits ds ≡ true) (value_after 0)
-own = numerals_by_fold _ (search rules) value_after (search rules)
+use Rattle.mp_text.specs.Numbers.{value_after, natural_of, at_most, greatest}
+use Rattle.mp_text.proofs.Spelled.{number_is_read, first_digit, digits_are_spelled}
 
 one_zero : (text : List ℕ) → (nat_lt 1 (length text) && nat_eq (slice_index text 0) 48) ≡ false → get_or text 0 0 ≡ 48 → length text ≡ 1
 one_zero [] h e = omega (arith, e)
@@ -29,7 +26,7 @@ two_zero (x ∷ y ∷ ys) h k =
     k (omega arith) (eqb-true x 48 (ap (λ t. t && nat_eq x 48) (sym t) ∙ h))
 
 -- a value found is the text's
-pub exact_found : (text : List ℕ) (max n : ℕ) → max < 2 ^ 64 → (get_or text 0 0 ≡ 48 → length text ≡ 1) → at_most max (natural_of text) ≡ Some n → (text ≡ decimal n) × (n ≤ max)
+pub exact_found : (text : List ℕ) (max n : ℕ) → max ≤ greatest → (get_or text 0 0 ≡ 48 → length text ≡ 1) → at_most max (natural_of text) ≡ Some n → (text ≡ decimal n) × (n ≤ max)
 exact_found [] max n small one h = absurd (none-some n h)
 exact_found (d ∷ ds) max n small one h =
     let step : (t : Bool) → all_ascii_digits (d ∷ ds) ≡ t → (d ∷ ds ≡ decimal n) × (n ≤ max) =
@@ -38,31 +35,24 @@ exact_found (d ∷ ds) max n small one h =
           let k : at_most max (Some (value_after 0 (d ∷ ds))) ≡ Some n = ap (λ t. at_most max (if t then Some (value_after 0 (d ∷ ds)) else None)) (sym e) ∙ h in
           let f = cond_some (nat_le (value_after 0 (d ∷ ds)) max) _ _ k in
           let bound : value_after 0 (d ∷ ds) ≤ max = leb-true _ _ f.0 in
-          (sym (decimal-digits_value own (d ∷ ds) e (omega arith) one (omega (arith, bound))) ∙ ap decimal f.1, subst (λ v. v ≤ max) f.1 bound)
+          (sym (digits_are_spelled (d ∷ ds) e (omega arith) one (omega (arith, bound, small))) ∙ ap decimal f.1, subst (λ v. v ≤ max) f.1 bound)
       | false ↦ λ e. absurd (none-some n (ap (λ t. at_most max (if t then Some (value_after 0 (d ∷ ds)) else None)) (sym e) ∙ h))
     ] in
     step (all_ascii_digits (d ∷ ds)) refl
 
-natural_digits : (ds : List ℕ) → 0 < length ds → all_ascii_digits ds ≡ true → natural_of ds ≡ Some (value_after 0 ds)
-natural_digits [] h e = absurd (let no : 1 ≤ 0 = omega (arith, h) in omega (arith, no))
-natural_digits (d ∷ ds) h e = ap (λ t. if t then Some (value_after 0 (d ∷ ds)) else None) e
-
 -- a number's spelling is read
-exact_read : (max n : ℕ) → n < 2 ^ 64 → n ≤ max → at_most max (natural_of (decimal n)) ≡ Some n
-exact_read max n small h =
-    ap (at_most max) (natural_digits (decimal n) (decimal_nonempty n small) (digits_decimal own n small))
-    ∙ ap (λ v. at_most max (Some v)) (digits_value-decimal own n small)
-    ∙ ap (λ t. if t then Some n else None) (le-leb n max h)
+exact_read : (max n : ℕ) → n ≤ greatest → n ≤ max → at_most max (natural_of (decimal n)) ≡ Some n
+exact_read max n small h = ap (at_most max) (number_is_read n small) ∙ ap (λ t. if t then Some n else None) (le-leb n max h)
 
 -- and has no zero in front
-exact_front : (n : ℕ) → n < 2 ^ 64 → 1 < length (decimal n) → get_or (decimal n) 0 0 ≢ 48
+exact_front : (n : ℕ) → n ≤ greatest → 1 < length (decimal n) → get_or (decimal n) 0 0 ≢ 48
 exact_front zero small long e = let one : length (decimal 0) ≡ 1 = ap length (decimal_digit 0 (omega arith)) in omega (arith, one, long)
-exact_front (suc n) small long e = omega (arith, first_decimal (suc n) (omega arith) small, e)
+exact_front (suc n) small long e = omega (arith, first_digit (suc n) (omega arith) small, e)
 
 zero_test : List ℕ → Bool
 zero_test text = nat_lt 1 (length text) && nat_eq (slice_index text 0) 48
 
-pub found : (max : ℕ) (text : List ℕ) (n : ℕ) → max < 2 ^ 64 → exact_of max text ≡ Some n → (text ≡ decimal n) × (n ≤ max)
+pub found : (max : ℕ) (text : List ℕ) (n : ℕ) → max ≤ greatest → exact_of max text ≡ Some n → (text ≡ decimal n) × (n ≤ max)
 unfolding zero_test
 found max text n small h =
     let step : (t : Bool) → zero_test text ≡ t → (text ≡ decimal n) × (n ≤ max) =
@@ -72,17 +62,13 @@ found max text n small h =
     ] in
     step (zero_test text) refl
 
-pub exact_complete : (max n : ℕ) → max < 2 ^ 64 → n ≤ max → exact_of max (decimal n) ≡ Some n
+pub exact_complete : (max n : ℕ) → max ≤ greatest → n ≤ max → exact_of max (decimal n) ≡ Some n
 unfolding zero_test
 exact_complete max n small bound =
-    let fits : n < 2 ^ 64 = omega (arith, bound, small) in
+    let fits : n ≤ greatest = omega (arith, bound, small) in
     let step : (t : Bool) → zero_test (decimal n) ≡ t → exact_of max (decimal n) ≡ Some n =
     λ (t : Bool). elim t as (λ t. zero_test (decimal n) ≡ t → exact_of max (decimal n) ≡ Some n) [
       | true ↦ λ e. absurd (two_zero (decimal n) e (λ long zero. exact_front n fits long zero))
       | false ↦ λ e. ap (λ t. if t then None else at_most max (natural_of (decimal n))) e ∙ exact_read max n fits bound
     ] in
     step (zero_test (decimal n)) refl
-
--- all its bytes are digits, the first of them not 0 but in 0 itself
-pub decimal_digits : (n : ℕ) → n < 2 ^ 64 → all_ascii_digits (decimal n) ≡ true
-decimal_digits n h = digits_decimal own n h

@@ -1,5 +1,5 @@
 -- A reader goes over all lines of a valid map.
-use Rattle.std.proofs.Common.{◌≡◌, ◌≤◌, ◌<◌, ◌-◌, ◌^◌, ℕ, suc, Bool, true, false, cond, List, [], ◌∷◌, ◌++◌, All, length, map, codes, decimal, Option, Some, None, refl, ap, sym, ◌∙◌, arith, append_assoc, lit<}
+use Rattle.std.proofs.Common.{◌≡◌, ◌≤◌, ◌-◌, ℕ, suc, Bool, true, false, cond, List, [], ◌∷◌, ◌++◌, All, length, map, codes, decimal, Option, Some, None, refl, ap, sym, ◌∙◌, arith, append_assoc, lit<, lit≤}
 use Rattle.std.specs.Prelude.{nat_eq}
 use Rattle.std.specs.Option.{option_map}
 use Rattle.std.proofs.Math.Dec.{eqb-suc-zero}
@@ -10,6 +10,7 @@ use Rattle.std.proofs.lemmas.List.Elements.{All-head, All-tail}
 use Rattle.mp_logic.specs.Labelled.{IsProper}
 use Rattle.mp_logic.specs.Weights.{weight_bound}
 use Rattle.mp_logic.specs.declared.instances.Repair.{Repair}
+use Rattle.mp_text.specs.Numbers.{greatest}
 use Rattle.mp_map.specs.Maps.{IsMap, map_lines, repair_words, most_original, most_inner, most_repairs}
 use Rattle.mp_map.specs.Reading.{number_in, most_repairs_over, expected_before, header_read, inner_read, next, start}
 use Rattle.mp_map.specs.declared.maps.MapFile.{MapFile}
@@ -45,7 +46,7 @@ at_stage e left m = record { expects = e; left = left; map = m }
 abbrev pub done : MapFile → Reader
 done m = at_stage Nothing 0 m
 
-next_mend : (m : MapFile) (front : List Repair) (p : Repair) (n : ℕ) → m.inner < 2 ^ 64 → IsProper m.inner p
+next_mend : (m : MapFile) (front : List Repair) (p : Repair) (n : ℕ) → m.inner ≤ greatest → IsProper m.inner p
     → next (at_stage (expected_before (suc n)) (suc n) (record m { repairs = front })) (repair_words p) ≡ Some (at_stage (expected_before n) n (record m { repairs = front ++ p ∷ [] }))
 next_mend m front p n small proper =
     let before : MapFile = record m { repairs = front } in
@@ -55,7 +56,7 @@ next_mend m front p n small proper =
     ∙ ap (option_map (λ p. at_stage (expected_before (suc n - 1)) (suc n - 1) (record m { repairs = front ++ p ∷ [] }))) (repair_complete m.inner p small proper)
     ∙ ap (λ (k : ℕ). Some (now k)) one
 
-run_repairs : (m : MapFile) (front rs : List Repair) (lines : List (List (List ℕ))) → m.inner < 2 ^ 64 → All (IsProper m.inner) rs
+run_repairs : (m : MapFile) (front rs : List Repair) (lines : List (List (List ℕ))) → m.inner ≤ greatest → All (IsProper m.inner) rs
     → run (at_stage (expected_before (length rs)) (length rs) (record m { repairs = front })) (map repair_words rs ++ lines) ≡ run (at_stage End 0 (record m { repairs = front ++ rs })) lines
 run_repairs m front [] lines small proper = ap (λ (l : List Repair). run (at_stage End 0 (record m { repairs = l })) lines) (sym (append-nil front))
 run_repairs m front (p ∷ rs) lines small proper =
@@ -64,7 +65,7 @@ run_repairs m front (p ∷ rs) lines small proper =
     ∙ ap (λ (l : List Repair). run (at_stage End 0 (record m { repairs = l })) lines) (append_assoc front (p ∷ []) rs))
 
 next_header : next start header ≡ Some (record start { expects = Original })
-next_header = ap (header_read start) (ap (λ (d : List ℕ). number_in (codes "maxpre-map") 1 (codes "maxpre-map" ∷ (d ∷ []))) (sym (decimal_digit 1 (lit< tt))) ∙ number_complete (codes "maxpre-map") 1 1 (lit< tt) (omega arith))
+next_header = ap (header_read start) (ap (λ (d : List ℕ). number_in (codes "maxpre-map") 1 (codes "maxpre-map" ∷ (d ∷ []))) (sym (decimal_digit 1 (lit< tt))) ∙ number_complete (codes "maxpre-map") 1 1 (lit≤ tt) (omega arith))
 
 few_repairs : (m : MapFile) → IsMap m → length m.repairs ≤ most_repairs_over m.inner
 few_repairs m v =
@@ -89,7 +90,7 @@ run_map m v =
     let s5 : Reader = at_stage Names 0 (record start.map { original = m.original; inner = m.inner; written = m.written; offset = m.offset }) in
     let s6 : Reader = at_stage Count 0 (record m { repairs = [] }) in
     let s7 : Reader = at_stage (expected_before (length m.repairs)) (length m.repairs) (record m { repairs = [] }) in
-    let small : m.inner < 2 ^ 64 = omega (arith, v.inner) in
+    let small : m.inner ≤ greatest = omega (arith, v.inner) in
     let l2 : List (List ℕ) = number_line (codes "original") m.original in
     let l3 : List (List ℕ) = number_line (codes "inner") m.inner in
     let l4 : List (List ℕ) = number_line (codes "written") m.written in
@@ -104,10 +105,10 @@ run_map m v =
     let t2 : List (List (List ℕ)) = l3 ∷ t3 in
     let at_last : Option Reader = Some (done m) in
     run_step start s1 header (l2 ∷ t2) at_last next_header
-    (run_step s1 s2 l2 t2 at_last (ap (option_map (λ n. record s1 { expects = Inner; map = record s1.map { original = n } })) (number_complete (codes "original") most_original m.original (lit< tt) v.original))
-    (run_step s2 s3 l3 t3 at_last (ap (inner_read s2) (number_complete (codes "inner") most_inner m.inner (lit< tt) v.inner) ∙ ap (λ (t : Bool). cond t (Some s3) None) (le-leb m.original m.inner v.least_inner))
+    (run_step s1 s2 l2 t2 at_last (ap (option_map (λ n. record s1 { expects = Inner; map = record s1.map { original = n } })) (number_complete (codes "original") most_original m.original (lit≤ tt) v.original))
+    (run_step s2 s3 l3 t3 at_last (ap (inner_read s2) (number_complete (codes "inner") most_inner m.inner (lit≤ tt) v.inner) ∙ ap (λ (t : Bool). cond t (Some s3) None) (le-leb m.original m.inner v.least_inner))
     (run_step s3 s4 l4 t4 at_last (ap (option_map (λ n. record s3 { expects = Offset; map = record s3.map { written = n } })) (number_complete (codes "written") m.inner m.written small v.written))
-    (run_step s4 s5 l5 t5 at_last (ap (option_map (λ n. record s4 { expects = Names; map = record s4.map { offset = n } })) (number_complete (codes "offset") (weight_bound - 1) m.offset (lit< tt) (omega (arith, v.offset))))
+    (run_step s4 s5 l5 t5 at_last (ap (option_map (λ n. record s4 { expects = Names; map = record s4.map { offset = n } })) (number_complete (codes "offset") (weight_bound - 1) m.offset (lit≤ tt) (omega (arith, v.offset))))
     (run_step s5 s6 l6 t6 at_last (ap (option_map (λ ns. record s5 { expects = Count; map = record s5.map { names = ns } })) (names_complete m.inner m.written m.names small v.each_named v.names_rising))
     (run_step s6 s7 l7 t7 at_last (ap (option_map (λ n. record s6 { expects = expected_before n; left = n })) (number_complete (codes "repairs") (most_repairs_over m.inner) (length m.repairs) (over_small m.inner) (few_repairs m v)))
     (run_repairs m [] m.repairs ((codes "end" ∷ []) ∷ []) small v.repairs_proper)))))))

@@ -1,12 +1,14 @@
 -- How a map's text is put together.
 use Rattle.std.proofs.Common.{◌≡◌, ◌++◌, ◌∷◌, [], ℕ, List, codes, decimal, ◌≤◌, length, map, take, refl, ap, sym, ◌∙◌, append_assoc}
-use Rattle.std.proofs.lemmas.List.{append-nil, take_all}
-use Rattle.std.proofs.lemmas.Grind.{flat_map-append}
+use Rattle.std.proofs.lemmas.List.{take_all}
 use Rattle.std.specs.List.{flat_map, join_with_byte}
 use Rattle.mp_logic.specs.Literal.{Literal}
 use Rattle.mp_logic.specs.declared.instances.Repair.{Repair}
 use Rattle.mp_map.specs.declared.maps.MapFile.{MapFile}
-use Rattle.mp_map.specs.Maps.{line_text, map_text, literal_word, clause_words, repair_words}
+use Rattle.mp_text.specs.Lines.{line_text}
+use Rattle.mp_text.proofs.Lines.{words_behind, text_of-append}
+use Rattle.mp_text.specs.Writing.{literal_word, clause_words}
+use Rattle.mp_map.specs.Maps.{map_text, repair_words}
 
 -- the lines before those of the repairs
 abbrev pub head_lines : MapFile → List (List (List ℕ))
@@ -22,11 +24,6 @@ head_lines m =
 
 abbrev pub head_text : MapFile → List ℕ
 head_text m = flat_map line_text (head_lines m)
-
--- words behind a first one, each after a blank
-pub join-map : {X : Type 0} (f : X → List ℕ) (w : List ℕ) (xs : List X) → join_with_byte 32 (w ∷ map f xs) ≡ w ++ flat_map (λ x. 32 ∷ f x) xs
-join-map f w [] = sym (append-nil w)
-join-map f w (x ∷ xs) = ap (λ (v : List ℕ). w ++ 32 ∷ v) (join-map f (f x) xs)
 
 pub join_more : (x : List ℕ) (ys : List (List ℕ)) (w : List ℕ) → join_with_byte 32 (x ∷ (ys ++ w ∷ [])) ≡ x ++ 32 ∷ join_with_byte 32 (ys ++ w ∷ [])
 join_more x [] w = refl
@@ -56,7 +53,7 @@ clause_done old text now c i all was is =
 pub names_done : (old text now names : List ℕ) (i : ℕ) → length names ≤ i → text ≡ old ++ (codes "names" ++ flat_map (λ n. 32 ∷ decimal n) (take i names)) → now ≡ text ++ 10 ∷ []
     → now ≡ old ++ line_text (codes "names" ∷ map decimal names)
 names_done old text now names i all was is =
-    is ∙ ap (λ (v : List ℕ). v ++ 10 ∷ []) (was ∙ ap (λ (v : List ℕ). old ++ (codes "names" ++ flat_map (λ n. 32 ∷ decimal n) v)) (take_all i names all) ∙ ap (λ (v : List ℕ). old ++ v) (sym (join-map decimal (codes "names") names)))
+    is ∙ ap (λ (v : List ℕ). v ++ 10 ∷ []) (was ∙ ap (λ (v : List ℕ). old ++ (codes "names" ++ flat_map (λ n. 32 ∷ decimal n) v)) (take_all i names all) ∙ ap (λ (v : List ℕ). old ++ v) (sym (words_behind decimal (codes "names") names)))
     ∙ append_assoc old (join_with_byte 32 (codes "names" ∷ map decimal names)) (10 ∷ [])
 
 pub repair_done : (old a b d now : List ℕ) (r : Repair) → a ≡ old ++ join_with_byte 32 (clause_words r.sets) → b ≡ a ++ 32 ∷ [] → d ≡ b ++ join_with_byte 32 (clause_words r.clause) → now ≡ d ++ 10 ∷ []
@@ -69,9 +66,6 @@ repair_done old a b d now r ea eb ed e =
     ∙ append_assoc old (s ++ 32 ∷ []) t ∙ ap (λ (v : List ℕ). old ++ v) (append_assoc s (32 ∷ []) t ∙ sym (join-append (map literal_word r.sets) (codes "0") (map literal_word r.clause) (codes "0"))) in
     e ∙ ap (λ (v : List ℕ). v ++ 10 ∷ []) whole ∙ append_assoc old (join_with_byte 32 (repair_words r)) (10 ∷ [])
 
-lines-append : (a b : List (List (List ℕ))) → flat_map line_text (a ++ b) ≡ flat_map line_text a ++ flat_map line_text b
-lines-append a b = flat_map-append line_text a b
-
 lines-map : (rs : List Repair) → flat_map line_text (map repair_words rs) ≡ flat_map (λ r. line_text (repair_words r)) rs
 lines-map [] = refl
 lines-map (r ∷ rs) = ap (λ (v : List ℕ). line_text (repair_words r) ++ v) (lines-map rs)
@@ -82,5 +76,5 @@ map_done m text now i all was is =
     let tail : List (List (List ℕ)) = (codes "end" ∷ []) ∷ [] in
     is ∙ ap (λ (v : List ℕ). v ++ codes "end\n") (was ∙ ap (λ (v : List Repair). head_text m ++ flat_map (λ r. line_text (repair_words r)) v) (take_all i m.repairs all) ∙ ap (λ (v : List ℕ). head_text m ++ v) (sym (lines-map m.repairs)))
     ∙ append_assoc (head_text m) (flat_map line_text (map repair_words m.repairs)) (codes "end\n")
-    ∙ ap (λ (v : List ℕ). head_text m ++ v) (sym (lines-append (map repair_words m.repairs) tail))
-    ∙ sym (lines-append (head_lines m) (map repair_words m.repairs ++ tail))
+    ∙ ap (λ (v : List ℕ). head_text m ++ v) (sym (text_of-append (map repair_words m.repairs) tail))
+    ∙ sym (text_of-append (head_lines m) (map repair_words m.repairs ++ tail))

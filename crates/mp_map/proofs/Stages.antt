@@ -1,5 +1,5 @@
 -- What a reader has read, and the map that the lines so far can still become.
-use Rattle.std.proofs.Common.{◌≡◌, ◌≢◌, ◌≤◌, ◌<◌, ◌+◌, ◌-◌, ◌^◌, ℕ, zero, suc, Bool, true, false, cond, ◌&&◌, IsTrue, List, [], ◌∷◌, ◌++◌, All, length, map, take, codes, decimal, replicate, Option, Some, None, refl, ap, ap₂, subst, sym, ◌∙◌, arith, append_assoc, length-append, lit<, zero-add}
+use Rattle.std.proofs.Common.{◌≡◌, ◌≢◌, ◌≤◌, ◌<◌, ◌+◌, ◌-◌, ℕ, zero, suc, Bool, true, false, cond, ◌&&◌, IsTrue, List, [], ◌∷◌, ◌++◌, All, length, map, take, codes, decimal, replicate, Option, Some, None, refl, ap, ap₂, subst, sym, ◌∙◌, arith, append_assoc, length-append, lit<, lit≤, zero-add}
 use Rattle.std.specs.Prelude.{nat_eq, nat_lt, nat_le}
 use Rattle.std.specs.Option.{option_map}
 use Rattle.std.specs.Str.{bytes_eq}
@@ -13,6 +13,7 @@ use Rattle.mp_logic.specs.Labelled.{IsProper, names_rise}
 use Rattle.mp_logic.specs.Literal.{Literal, IsUpTo}
 use Rattle.mp_logic.specs.Weights.{weight_bound}
 use Rattle.mp_logic.specs.declared.instances.Repair.{Repair}
+use Rattle.mp_text.specs.Numbers.{greatest}
 use Rattle.mp_map.specs.Maps.{IsMap, map_lines, repair_words, most_original, most_inner, most_repairs}
 use Rattle.mp_map.specs.Pieces.{is_empty}
 use Rattle.mp_map.specs.Reading.{number_in, names_in, repair_in, is_end_line, most_repairs_over, expected_before, header_read, inner_read, next_at}
@@ -273,30 +274,27 @@ step_mend r p ws v some is proper =
     ] in
     step (nat_eq left 0) refl
 
-most_repairs_small : most_repairs < 2 ^ 64
-most_repairs_small = lit< tt
-
-pub over_small : (i : ℕ) → most_repairs_over i < 2 ^ 64
-over_small i = elim (nat_eq i 0) as (λ t. cond t 0 most_repairs < 2 ^ 64) [ true ↦ lit< tt | false ↦ most_repairs_small ]
+pub over_small : (i : ℕ) → most_repairs_over i ≤ greatest
+over_small i = elim (nat_eq i 0) as (λ t. cond t 0 most_repairs ≤ greatest) [ true ↦ lit≤ tt | false ↦ lit≤ tt ]
 
 pub step_at : (e : Expects) (r s : Reader) (ws : List (List ℕ)) → IsMap (complete_at e r) → facts_at e r → next_at e r ws ≡ Some s → Goes e r s ws
 step_at Header r s ws v facts h =
     let p = header_some r (number_in (codes "maxpre-map") 1 ws) s h in
-    let q = number_sound (codes "maxpre-map") 1 ws 1 (lit< tt) p.0 in
+    let q = number_sound (codes "maxpre-map") 1 ws 1 (lit≤ tt) p.0 in
     subst (λ (s : Reader). Goes Header r s ws) p.1 (record {
       lines = ap (λ (vs : List (List ℕ)). vs ∷ []) (sym (q.0 ∙ ap (λ (d : List ℕ). codes "maxpre-map" ∷ (d ∷ [])) (decimal_digit 1 (lit< tt))));
       reader = record { valid = v; facts = facts };
     })
 step_at Original r s ws v facts h =
     let p = map_some (λ n. record r { expects = Inner; map = record r.map { original = n } }) (number_in (codes "original") most_original ws) s h in
-    let q = number_sound (codes "original") most_original ws p.0 (lit< tt) p.1 in
+    let q = number_sound (codes "original") most_original ws p.0 (lit≤ tt) p.1 in
     subst (λ (s : Reader). Goes Original r s ws) p.2 (record {
       lines = ap (λ (vs : List (List ℕ)). header ∷ (vs ∷ [])) (sym q.0);
       reader = record { valid = bare_valid p.0 p.0 q.1 (omega arith) (omega (arith, q.1)); facts = facts };
     })
 step_at Inner r s ws v facts h =
     let p = inner_some r (number_in (codes "inner") most_inner ws) s h in
-    let q = number_sound (codes "inner") most_inner ws p.0 (lit< tt) p.1 in
+    let q = number_sound (codes "inner") most_inner ws p.0 (lit≤ tt) p.1 in
     subst (λ (s : Reader). Goes Inner r s ws) p.3 (record {
       lines = ap (λ (vs : List (List ℕ)). lines_at Inner r ++ vs ∷ []) (sym q.0);
       reader = record { valid = bare_valid r.map.original p.0 v.original p.2 q.1; facts = facts };
@@ -310,7 +308,7 @@ step_at Written r s ws v facts h =
     })
 step_at Offset r s ws v facts h =
     let p = map_some (λ n. record r { expects = Names; map = record r.map { offset = n } }) (number_in (codes "offset") (weight_bound - 1) ws) s h in
-    let q = number_sound (codes "offset") (weight_bound - 1) ws p.0 (lit< tt) p.1 in
+    let q = number_sound (codes "offset") (weight_bound - 1) ws p.0 (lit≤ tt) p.1 in
     subst (λ (s : Reader). Goes Offset r s ws) p.2 (record {
       lines = ap (λ (vs : List (List ℕ)). lines_at Offset r ++ vs ∷ []) (sym q.0);
       reader = record { valid = named_valid r.map.original r.map.inner r.map.written p.0 (bare_valid r.map.original r.map.inner v.original v.least_inner v.inner) v.written (omega (arith, q.1)); facts = facts };

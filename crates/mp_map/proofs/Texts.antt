@@ -1,5 +1,5 @@
 -- The lines of a map's text, cut at line feeds and blanks.
-use Rattle.std.proofs.Common.{◌≡◌, ◌≤◌, ◌<◌, ◌^◌, ℕ, Bool, true, false, not, cond, ◌&&◌, IsTrue, List, [], ◌∷◌, ◌++◌, All, length, map, codes, decimal, refl, ap, subst, ◌∙◌, arith, append_assoc, lit<}
+use Rattle.std.proofs.Common.{◌≡◌, ◌≤◌, ◌<◌, ℕ, Bool, true, false, not, cond, ◌&&◌, IsTrue, List, [], ◌∷◌, ◌++◌, All, length, map, codes, decimal, refl, ap, subst, ◌∙◌, arith, append_assoc, lit<}
 use Rattle.std.specs.Prelude.{nat_eq, nat_lt, nat_le}
 use Rattle.std.specs.Char.{is_ascii_digit}
 use Rattle.std.specs.List.{onto_first, flat_map, join_with_byte, list_all}
@@ -12,10 +12,13 @@ use Rattle.mp_logic.specs.Labelled.{IsProper, names_rise}
 use Rattle.mp_logic.specs.Literal.{Literal, IsUpTo}
 use Rattle.mp_logic.specs.declared.instances.Repair.{Repair}
 use Rattle.mp_map.specs.declared.maps.MapFile.{MapFile}
-use Rattle.mp_map.specs.Maps.{IsMap, map_lines, line_text, literal_word, clause_words, repair_words}
+use Rattle.mp_text.specs.Lines.{line_text}
+use Rattle.mp_text.specs.Writing.{literal_word, clause_words}
+use Rattle.mp_map.specs.Maps.{IsMap, map_lines, repair_words}
 use Rattle.mp_map.specs.Pieces.{pieces_at, is_empty}
 use Rattle.mp_map.specs.Reading.{words_in}
-use Rattle.mp_map.proofs.Numerals.{decimal_digits}
+use Rattle.mp_text.specs.Numbers.{greatest}
+use Rattle.mp_text.proofs.Spelled.{number_is_digits}
 
 -- no byte is this one
 abbrev pub lacks : ℕ → List ℕ → Bool
@@ -114,13 +117,13 @@ digits_lack s (d ∷ ds) h e =
     let p = and_parts (is_ascii_digit d) (all_ascii_digits ds) e in
     and_from (not (nat_eq d s)) (lacks s ds) (digit_apart s d h p.0) (digits_lack s ds h p.1)
 
-decimal_word : (n : ℕ) → n < 2 ^ 64 → is_word (decimal n) ≡ true
-decimal_word n h = and_from (lacks 32 (decimal n)) (lacks 10 (decimal n)) (digits_lack 32 (decimal n) (lit< tt) (decimal_digits n h)) (digits_lack 10 (decimal n) (lit< tt) (decimal_digits n h))
+decimal_word : (n : ℕ) → n ≤ greatest → is_word (decimal n) ≡ true
+decimal_word n h = and_from (lacks 32 (decimal n)) (lacks 10 (decimal n)) (digits_lack 32 (decimal n) (lit< tt) (number_is_digits n h)) (digits_lack 10 (decimal n) (lit< tt) (number_is_digits n h))
 
-number_is_line : (word : List ℕ) (n : ℕ) → is_word word ≡ true → n < 2 ^ 64 → is_line (word ∷ (decimal n ∷ [])) ≡ true
+number_is_line : (word : List ℕ) (n : ℕ) → is_word word ≡ true → n ≤ greatest → is_line (word ∷ (decimal n ∷ [])) ≡ true
 number_is_line word n h small = and_from (is_word word) (is_word (decimal n) && true) h (and_from (is_word (decimal n)) true (decimal_word n small) refl)
 
-names_are_words : (least inner : ℕ) (ns : List ℕ) → inner < 2 ^ 64 → IsTrue (names_rise least inner ns) → list_all is_word (map decimal ns) ≡ true
+names_are_words : (least inner : ℕ) (ns : List ℕ) → inner ≤ greatest → IsTrue (names_rise least inner ns) → list_all is_word (map decimal ns) ≡ true
 names_are_words least inner [] small h = refl
 names_are_words least inner (n ∷ ns) small h =
     let p = and_parts (nat_lt least n && nat_le n inner) (names_rise n inner ns) h in
@@ -128,12 +131,12 @@ names_are_words least inner (n ∷ ns) small h =
     let bound : n ≤ inner = leb-true n inner q.1 in
     and_from (is_word (decimal n)) (list_all is_word (map decimal ns)) (decimal_word n (omega (arith, bound, small))) (names_are_words n inner ns small p.1)
 
-literal_is_word : (inner : ℕ) (l : Literal) → inner < 2 ^ 64 → IsUpTo inner l → is_word (literal_word l) ≡ true
+literal_is_word : (inner : ℕ) (l : Literal) → inner ≤ greatest → IsUpTo inner l → is_word (literal_word l) ≡ true
 literal_is_word inner l small h =
     let fits : is_word (decimal l.variable) ≡ true = decimal_word l.variable (omega (arith, h.1, small)) in
     elim l.negative as (λ t. is_word (cond t (45 ∷ decimal l.variable) (decimal l.variable)) ≡ true) [ true ↦ fits | false ↦ fits ]
 
-clause_are_words : (inner : ℕ) (c : List Literal) (rest : List (List ℕ)) → inner < 2 ^ 64 → All (IsUpTo inner) c → list_all is_word rest ≡ true → list_all is_word (clause_words c ++ rest) ≡ true
+clause_are_words : (inner : ℕ) (c : List Literal) (rest : List (List ℕ)) → inner ≤ greatest → All (IsUpTo inner) c → list_all is_word rest ≡ true → list_all is_word (clause_words c ++ rest) ≡ true
 clause_are_words inner [] rest small h k = k
 clause_are_words inner (l ∷ c) rest small h k =
     and_from (is_word (literal_word l)) (list_all is_word (clause_words c ++ rest)) (literal_is_word inner l small (All-head (IsUpTo inner) l c h)) (clause_are_words inner c rest small (All-tail (IsUpTo inner) l c h) k)
@@ -142,12 +145,12 @@ clause_filled : (c : List Literal) (rest : List (List ℕ)) → not (is_empty (c
 clause_filled [] rest = refl
 clause_filled (l ∷ c) rest = refl
 
-repair_is_line : (inner : ℕ) (r : Repair) → inner < 2 ^ 64 → IsProper inner r → is_line (repair_words r) ≡ true
+repair_is_line : (inner : ℕ) (r : Repair) → inner ≤ greatest → IsProper inner r → is_line (repair_words r) ≡ true
 repair_is_line inner r small h =
     let second : list_all is_word (clause_words r.clause) ≡ true = subst (λ (ws : List (List ℕ)). list_all is_word ws ≡ true) (append-nil (clause_words r.clause)) (clause_are_words inner r.clause [] small h.clause_within refl) in
     and_from (not (is_empty (repair_words r))) (list_all is_word (repair_words r)) (clause_filled r.sets (clause_words r.clause)) (clause_are_words inner r.sets (clause_words r.clause) small h.sets_within second)
 
-repairs_are_lines : (inner : ℕ) (rs : List Repair) (rest : List (List (List ℕ))) → inner < 2 ^ 64 → All (IsProper inner) rs → list_all is_line rest ≡ true → list_all is_line (map repair_words rs ++ rest) ≡ true
+repairs_are_lines : (inner : ℕ) (rs : List Repair) (rest : List (List (List ℕ))) → inner ≤ greatest → All (IsProper inner) rs → list_all is_line rest ≡ true → list_all is_line (map repair_words rs ++ rest) ≡ true
 repairs_are_lines inner [] rest small h k = k
 repairs_are_lines inner (r ∷ rs) rest small h k =
     and_from (is_line (repair_words r)) (list_all is_line (map repair_words rs ++ rest)) (repair_is_line inner r small (All-head (IsProper inner) r rs h)) (repairs_are_lines inner rs rest small (All-tail (IsProper inner) r rs h) k)
@@ -155,7 +158,7 @@ repairs_are_lines inner (r ∷ rs) rest small h k =
 -- the lines of a valid map are lines
 pub map_good : (m : MapFile) → IsMap m → list_all is_line (map_lines m) ≡ true
 map_good m v =
-    let small : m.inner < 2 ^ 64 = omega (arith, v.inner) in
+    let small : m.inner ≤ greatest = omega (arith, v.inner) in
     let names : is_line (codes "names" ∷ map decimal m.names) ≡ true = names_are_words 0 m.inner m.names small v.names_rising in
     let t7 : list_all is_line (map repair_words m.repairs ++ (codes "end" ∷ []) ∷ []) ≡ true = repairs_are_lines m.inner m.repairs ((codes "end" ∷ []) ∷ []) small v.repairs_proper refl in
     let t6 = and_from _ _ (number_is_line (codes "repairs") (length m.repairs) refl (omega (arith, v.repairs_few))) t7 in

@@ -1,17 +1,19 @@
 -- What reading a whole text answers.
 use Rattle.std.proofs.Common.{◌≡◌, ◌≤◌, ◌+◌, ◌-◌, ◌⊎◌, inl, inr, ℕ, Bool, true, false, cond, List, [], ◌∷◌, ◌++◌, length, map, Option, Some, None, Result, Ok, Err, IfOk, IfErr, refl, ap, subst, sym, ◌∙◌, arith, append_assoc, length-append}
 use Rattle.std.specs.Prelude.{nat_eq}
-use Rattle.std.specs.List.{count_by, flat_map, join_with_byte, list_all}
+use Rattle.std.specs.List.{count_by, join_with_byte, list_all}
 use Rattle.std.proofs.lemmas.Bool.{and_parts, ne_eqb}
-use Rattle.std.proofs.lemmas.Grind.{flat_map-append}
 use Rattle.std.proofs.lemmas.List.{append-nil}
 use Rattle.std.proofs.lemmas.List.Folds.{list_all-append}
 use Rattle.std.proofs.lemmas.List.Splits.{join_with_byte-slice_split}
 use Rattle.std.proofs.lemmas.Option.{none-some}
 use Rattle.mp_text.specs.Tokens.{ends_line}
 use Rattle.mp_map.specs.Answers.{Answers}
-use Rattle.mp_map.specs.Faults.{BeginsSpelling, IsFirstFault, IsFaultLine, IsRefused, IsSpelling, OneSpelling, line_behind, end_line}
-use Rattle.mp_map.specs.Maps.{IsMap, map_lines, map_text, line_text}
+use Rattle.mp_text.specs.Lines.{line_behind, end_line}
+use Rattle.mp_map.specs.Faults.{BeginsSpelling, IsFirstFault, IsFaultLine, IsRefused, IsSpelling, OneSpelling}
+use Rattle.mp_text.specs.Lines.{line_text, text_of}
+use Rattle.mp_text.proofs.Lines.{text_of-append}
+use Rattle.mp_map.specs.Maps.{IsMap, map_lines, map_text}
 use Rattle.mp_map.specs.Pieces.{pieces_at}
 use Rattle.mp_map.specs.Reading.{words_in, next, finished, end_at, read_with, read_on, read_pieces, read_text, start}
 use Rattle.mp_map.specs.declared.maps.MapFile.{MapFile}
@@ -26,15 +28,9 @@ use Rattle.mp_map.proofs.Runs.{run, run_with, run-append, run_map, done}
 use Rattle.mp_map.proofs.Stages.{IsReader, Goes, Completes, lines_at, complete_at, step_at, completes, bare_valid}
 use Rattle.mp_map.proofs.Texts.{lacks, is_line, map_good, pieces_cut, pieces_lack, pieces_lines}
 
-abbrev text_of : List (List (List ℕ)) → List ℕ
-text_of lines = flat_map line_text lines
-
 -- the lines that were read
 abbrev lines_of : Reader → List (List (List ℕ))
 lines_of r = lines_at r.expects r
-
-text_of-append : (a b : List (List (List ℕ))) → text_of (a ++ b) ≡ text_of a ++ text_of b
-text_of-append a b = flat_map-append line_text a b
 
 ok_err : (m : MapFile) (n : ℕ) → Ok m ≡ Err n → ⊥
 ok_err m n e = cc

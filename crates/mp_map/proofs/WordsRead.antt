@@ -1,11 +1,10 @@
 -- The words of a line are read as they are written.
-use Rattle.std.proofs.Common.{◌≡◌, ◌≢◌, ◌≤◌, ◌<◌, ◌^◌, ℕ, zero, suc, Bool, true, false, not, cond, ◌&&◌, IsTrue, List, [], ◌∷◌, ◌++◌, length, map, get_or, codes, decimal, Option, Some, None, refl, ap, subst, sym, ◌∙◌, arith}
+use Rattle.std.proofs.Common.{◌≡◌, ◌≢◌, ◌≤◌, ◌<◌, ℕ, zero, suc, Bool, true, false, not, cond, ◌&&◌, IsTrue, List, [], ◌∷◌, ◌++◌, length, map, get_or, codes, decimal, Option, Some, None, refl, ap, subst, sym, ◌∙◌, arith}
 use Rattle.std.specs.Prelude.{nat_eq, nat_lt, nat_le}
 use Rattle.std.specs.List.{AllByRecursion}
 use Rattle.std.specs.Str.{bytes_eq}
-use Rattle.std.proofs.lemmas.Bool.{and_parts, and_from, false≢true, leb-true, eqb-true, eq-eqb, ne_eqb}
+use Rattle.std.proofs.lemmas.Bool.{and_parts, and_from, false_from_ne_true, false≢true, leb-true, eqb-true, eq-eqb, ne_eqb}
 use Rattle.std.proofs.Math.Dec.{eqb-suc-zero}
-use Rattle.std.proofs.lemmas.Fmt.{first_decimal}
 use Rattle.std.proofs.lemmas.List.Elements.{recursion_from_All, All-from_recursion}
 use Rattle.std.proofs.lemmas.List.{append-nil}
 use Rattle.std.proofs.lemmas.Option.{none-some}
@@ -14,7 +13,10 @@ use Rattle.mp_logic.specs.Labelled.{IsProper, names_rise}
 use Rattle.mp_logic.specs.Literal.{Literal, IsUpTo}
 use Rattle.mp_logic.specs.Normal.{rises}
 use Rattle.mp_logic.specs.declared.instances.Repair.{Repair}
-use Rattle.mp_map.specs.Maps.{literal_word, clause_words, repair_words}
+use Rattle.mp_text.specs.Numbers.{greatest}
+use Rattle.mp_text.proofs.Spelled.{first_digit}
+use Rattle.mp_text.specs.Writing.{literal_word, clause_words}
+use Rattle.mp_map.specs.Maps.{repair_words}
 use Rattle.mp_map.specs.Pieces.{is_empty}
 use Rattle.mp_map.specs.Reading.{exact_of, number_in, put_first, numbers_in, checked_names, names_in, signed, literal_in, put_literal, clause_in, checked_repair, repair_behind, repair_in}
 use Rattle.mp_map.proofs.Numerals.{found, exact_complete}
@@ -27,13 +29,11 @@ pub same_bytes : (xs : List ℕ) → bytes_eq xs xs ≡ true
 same_bytes xs = (bytes_eq-Decides xs xs).1 refl
 
 pub other_bytes : (xs ys : List ℕ) → (xs ≡ ys → ⊥) → bytes_eq xs ys ≡ false
-other_bytes xs ys ne =
-    let go : (b : Bool) → bytes_eq xs ys ≡ b → bytes_eq xs ys ≡ false = λ (b : Bool). elim b as (λ b. bytes_eq xs ys ≡ b → bytes_eq xs ys ≡ false) [ true ↦ λ e. absurd (ne ((bytes_eq-Decides xs ys).0 e)) | false ↦ λ e. e ] in
-    go (bytes_eq xs ys) refl
+other_bytes xs ys ne = false_from_ne_true (bytes_eq xs ys) (λ e. ne ((bytes_eq-Decides xs ys).0 e))
 
 -- a word and a number
 
-pub number_sound : (word : List ℕ) (most : ℕ) (ws : List (List ℕ)) (n : ℕ) → most < 2 ^ 64 → number_in word most ws ≡ Some n → (ws ≡ word ∷ (decimal n ∷ [])) × (n ≤ most)
+pub number_sound : (word : List ℕ) (most : ℕ) (ws : List (List ℕ)) (n : ℕ) → most ≤ greatest → number_in word most ws ≡ Some n → (ws ≡ word ∷ (decimal n ∷ [])) × (n ≤ most)
 number_sound word most [] n small h = absurd (none-some n h)
 number_sound word most (w ∷ []) n small h = absurd (none-some n h)
 number_sound word most (w ∷ (d ∷ [])) n small h =
@@ -42,7 +42,7 @@ number_sound word most (w ∷ (d ∷ [])) n small h =
     (ap (λ (v : List ℕ). v ∷ (d ∷ [])) ((bytes_eq-Decides w word).0 p.0) ∙ ap (λ (v : List ℕ). word ∷ (v ∷ [])) f.0, f.1)
 number_sound word most (w ∷ (d ∷ (e ∷ es))) n small h = absurd (none-some n h)
 
-pub number_complete : (word : List ℕ) (most n : ℕ) → most < 2 ^ 64 → n ≤ most → number_in word most (word ∷ (decimal n ∷ [])) ≡ Some n
+pub number_complete : (word : List ℕ) (most n : ℕ) → most ≤ greatest → n ≤ most → number_in word most (word ∷ (decimal n ∷ [])) ≡ Some n
 number_complete word most n small h = ap (λ (t : Bool). cond t (exact_of most (decimal n)) None) (same_bytes word) ∙ exact_complete most n small h
 
 -- names
@@ -52,13 +52,13 @@ put_first_some None rest xs h = absurd (none-some xs h)
 put_first_some (Some x) None xs h = absurd (none-some xs h)
 put_first_some (Some x) (Some ys) xs h = (x, ys, refl, refl, cc)
 
-numbers_sound : (most : ℕ) (ws : List (List ℕ)) (ns : List ℕ) → most < 2 ^ 64 → numbers_in most ws ≡ Some ns → ws ≡ map decimal ns
+numbers_sound : (most : ℕ) (ws : List (List ℕ)) (ns : List ℕ) → most ≤ greatest → numbers_in most ws ≡ Some ns → ws ≡ map decimal ns
 numbers_sound most [] ns small h = ap (map decimal) (let e : [] ≡ ns = cc in e)
 numbers_sound most (w ∷ ws) ns small h =
     let p = put_first_some (exact_of most w) (numbers_in most ws) ns h in
     ap (λ (v : List ℕ). v ∷ ws) (found most w p.0 small p.2).0 ∙ ap (λ (vs : List (List ℕ)). decimal p.0 ∷ vs) (numbers_sound most ws p.1 small p.3) ∙ ap (map decimal) p.4
 
-numbers_complete : (least most : ℕ) (ns : List ℕ) → most < 2 ^ 64 → IsTrue (names_rise least most ns) → numbers_in most (map decimal ns) ≡ Some ns
+numbers_complete : (least most : ℕ) (ns : List ℕ) → most ≤ greatest → IsTrue (names_rise least most ns) → numbers_in most (map decimal ns) ≡ Some ns
 numbers_complete least most [] small h = refl
 numbers_complete least most (n ∷ ns) small h =
     let p = and_parts (nat_lt least n && nat_le n most) (names_rise n most ns) h in
@@ -73,7 +73,7 @@ checked_some inner written (Some names) ns h =
     let same : names ≡ ns = (let e : Some names ≡ Some ns = p.1 in cc) in
     (p.1, subst (λ (l : List ℕ). length l ≡ written) same (eqb-true _ _ q.0), subst (λ (l : List ℕ). IsTrue (names_rise 0 inner l)) same q.1)
 
-pub names_sound : (inner written : ℕ) (ws : List (List ℕ)) (ns : List ℕ) → inner < 2 ^ 64 → names_in inner written ws ≡ Some ns
+pub names_sound : (inner written : ℕ) (ws : List (List ℕ)) (ns : List ℕ) → inner ≤ greatest → names_in inner written ws ≡ Some ns
     → (ws ≡ codes "names" ∷ map decimal ns) × (length ns ≡ written) × IsTrue (names_rise 0 inner ns)
 names_sound inner written [] ns small h = absurd (none-some ns h)
 names_sound inner written (w ∷ ws) ns small h =
@@ -81,7 +81,7 @@ names_sound inner written (w ∷ ws) ns small h =
     let q = checked_some inner written (numbers_in inner ws) ns p.1 in
     (ap (λ (v : List ℕ). v ∷ ws) ((bytes_eq-Decides w (codes "names")).0 p.0) ∙ ap (λ (vs : List (List ℕ)). codes "names" ∷ vs) (numbers_sound inner ws ns small q.0), q.1, q.2)
 
-pub names_complete : (inner written : ℕ) (ns : List ℕ) → inner < 2 ^ 64 → length ns ≡ written → IsTrue (names_rise 0 inner ns) → names_in inner written (codes "names" ∷ map decimal ns) ≡ Some ns
+pub names_complete : (inner written : ℕ) (ns : List ℕ) → inner ≤ greatest → length ns ≡ written → IsTrue (names_rise 0 inner ns) → names_in inner written (codes "names" ∷ map decimal ns) ≡ Some ns
 names_complete inner written ns small len rising =
     ap (λ (t : Bool). cond t (checked_names inner written (numbers_in inner (map decimal ns))) None) (same_bytes (codes "names"))
     ∙ ap (checked_names inner written) (numbers_complete 0 inner ns small rising)
@@ -97,13 +97,13 @@ signed_some negative (Some (suc n)) l h =
     let same : made ≡ l = (let e : Some made ≡ Some l = ap (λ (t : Bool). cond t None (Some made)) (sym (eqb-suc-zero n)) ∙ h in cc) in
     (ap (λ (k : Literal). Some k.variable) same, ap (λ (k : Literal). k.negative) (sym same), subst (λ (k : Literal). 1 ≤ k.variable) same (omega arith))
 
-literal_parts : (most : ℕ) (w : List ℕ) (l : Literal) (negative : Bool) → most < 2 ^ 64 → signed negative (exact_of most w) ≡ Some l → (w ≡ decimal l.variable) × (l.negative ≡ negative) × IsUpTo most l
+literal_parts : (most : ℕ) (w : List ℕ) (l : Literal) (negative : Bool) → most ≤ greatest → signed negative (exact_of most w) ≡ Some l → (w ≡ decimal l.variable) × (l.negative ≡ negative) × IsUpTo most l
 literal_parts most w l negative small h =
     let p = signed_some negative (exact_of most w) l h in
     let f = found most w l.variable small p.0 in
     (f.0, p.1, (p.2, f.1))
 
-pub literal_sound : (most : ℕ) (w : List ℕ) (l : Literal) → most < 2 ^ 64 → literal_in most w ≡ Some l → (w ≡ literal_word l) × IsUpTo most l
+pub literal_sound : (most : ℕ) (w : List ℕ) (l : Literal) → most ≤ greatest → literal_in most w ≡ Some l → (w ≡ literal_word l) × IsUpTo most l
 literal_sound most [] l small h = absurd (none-some l h)
 literal_sound most (b ∷ bs) l small h =
     let step : (t : Bool) → nat_eq b 45 ≡ t → (b ∷ bs ≡ literal_word l) × IsUpTo most l =
@@ -122,16 +122,16 @@ signed_made negative zero h = absurd (omega (arith, h))
 signed_made negative (suc n) h = ap (λ (t : Bool). cond t None (Some (record { variable = suc n; negative = negative }))) (eqb-suc-zero n)
 
 -- a number from 1 begins with a digit from 1
-positive_word : (most n : ℕ) (ds : List ℕ) → most < 2 ^ 64 → 1 ≤ n → n ≤ most → ds ≡ decimal n → literal_in most ds ≡ Some (record { variable = n; negative = false })
-positive_word most n [] small one h e = absurd (let f : 48 < get_or (decimal n) 0 0 = first_decimal n one (omega (arith, small, h)) in let z : 48 < 0 = subst (λ (v : List ℕ). 48 < get_or v 0 0) (sym e) f in omega (arith, z))
+positive_word : (most n : ℕ) (ds : List ℕ) → most ≤ greatest → 1 ≤ n → n ≤ most → ds ≡ decimal n → literal_in most ds ≡ Some (record { variable = n; negative = false })
+positive_word most n [] small one h e = absurd (let f : 48 < get_or (decimal n) 0 0 = first_digit n one (omega (arith, small, h)) in let z : 48 < 0 = subst (λ (v : List ℕ). 48 < get_or v 0 0) (sym e) f in omega (arith, z))
 positive_word most n (d ∷ ds) small one h e =
-    let f : 48 < get_or (decimal n) 0 0 = first_decimal n one (omega (arith, small, h)) in
+    let f : 48 < get_or (decimal n) 0 0 = first_digit n one (omega (arith, small, h)) in
     let z : 48 < d = subst (λ (v : List ℕ). 48 < get_or v 0 0) (sym e) f in
     let no : nat_eq d 45 ≡ false = ne_eqb d 45 (λ s. omega (arith, s, z)) in
     ap (λ (t : Bool). cond t (signed true (exact_of most ds)) (signed false (exact_of most (d ∷ ds)))) no
     ∙ ap (λ (v : List ℕ). signed false (exact_of most v)) e ∙ ap (signed false) (exact_complete most n small h) ∙ signed_made false n one
 
-pub literal_complete : (most : ℕ) (l : Literal) → most < 2 ^ 64 → IsUpTo most l → literal_in most (literal_word l) ≡ Some l
+pub literal_complete : (most : ℕ) (l : Literal) → most ≤ greatest → IsUpTo most l → literal_in most (literal_word l) ≡ Some l
 literal_complete most l small h =
     let step : (t : Bool) → l.negative ≡ t → literal_in most (cond t (45 ∷ decimal l.variable) (decimal l.variable)) ≡ Some (record { variable = l.variable; negative = t }) =
     λ (t : Bool). elim t as (λ t. l.negative ≡ t → literal_in most (cond t (45 ∷ decimal l.variable) (decimal l.variable)) ≡ Some (record { variable = l.variable; negative = t })) [
@@ -141,13 +141,13 @@ literal_complete most l small h =
     step l.negative refl
 
 -- a literal's word isn't 0
-literal_apart : (most : ℕ) (l : Literal) → most < 2 ^ 64 → IsUpTo most l → bytes_eq (literal_word l) (codes "0") ≡ false
+literal_apart : (most : ℕ) (l : Literal) → most ≤ greatest → IsUpTo most l → bytes_eq (literal_word l) (codes "0") ≡ false
 literal_apart most l small h =
     other_bytes (literal_word l) (codes "0") (λ e.
     let step : (t : Bool) → cond t (45 ∷ decimal l.variable) (decimal l.variable) ≡ codes "0" → ⊥ =
     λ (t : Bool). elim t as (λ t. cond t (45 ∷ decimal l.variable) (decimal l.variable) ≡ codes "0" → ⊥) [
       | true ↦ λ s. let n : 45 ≡ 48 = (ap (λ (v : List ℕ). get_or v 0 0) s) in omega (arith, n)
-      | false ↦ λ s. let z : 48 < 48 = subst (λ (v : List ℕ). 48 < get_or v 0 0) s (first_decimal l.variable h.0 (omega (arith, small, h.1))) in omega (arith, z)
+      | false ↦ λ s. let z : 48 < 48 = subst (λ (v : List ℕ). 48 < get_or v 0 0) s (first_digit l.variable h.0 (omega (arith, small, h.1))) in omega (arith, z)
     ] in
     step l.negative e)
 
@@ -164,7 +164,7 @@ put_literal_some (Some l) (Some (d, vs)) c ws h =
     let e : (l ∷ d, vs) ≡ (c, ws) = some_pair (l ∷ d, vs) (c, ws) h in
     (l, d, refl, ap (λ (v : List (List ℕ)). Some (d, v)) (ap (λ (p : List Literal × List (List ℕ)). p.1) e), ap (λ (p : List Literal × List (List ℕ)). p.0) e)
 
-pub clause_sound : (most : ℕ) (ws : List (List ℕ)) (c : List Literal) (rest : List (List ℕ)) → most < 2 ^ 64 → clause_in most ws ≡ Some (c, rest) → (ws ≡ clause_words c ++ rest) × AllByRecursion (IsUpTo most) c
+pub clause_sound : (most : ℕ) (ws : List (List ℕ)) (c : List Literal) (rest : List (List ℕ)) → most ≤ greatest → clause_in most ws ≡ Some (c, rest) → (ws ≡ clause_words c ++ rest) × AllByRecursion (IsUpTo most) c
 clause_sound most [] c rest small h = absurd (none-some (c, rest) h)
 clause_sound most (w ∷ ws) c rest small h =
     let step : (t : Bool) → bytes_eq w (codes "0") ≡ t → (w ∷ ws ≡ clause_words c ++ rest) × AllByRecursion (IsUpTo most) c =
@@ -184,7 +184,7 @@ clause_sound most (w ∷ ws) c rest small h =
     ] in
     step (bytes_eq w (codes "0")) refl
 
-pub clause_complete : (most : ℕ) (c : List Literal) (rest : List (List ℕ)) → most < 2 ^ 64 → AllByRecursion (IsUpTo most) c → clause_in most (clause_words c ++ rest) ≡ Some (c, rest)
+pub clause_complete : (most : ℕ) (c : List Literal) (rest : List (List ℕ)) → most ≤ greatest → AllByRecursion (IsUpTo most) c → clause_in most (clause_words c ++ rest) ≡ Some (c, rest)
 clause_complete most [] rest small h = refl
 clause_complete most (l ∷ c) rest small h =
     ap (λ (t : Bool). cond t (Some ([], clause_words c ++ rest)) (put_literal (literal_in most (literal_word l)) (clause_in most (clause_words c ++ rest)))) (literal_apart most l small h.0)
@@ -223,7 +223,7 @@ repair_parts most (Some (sets, ws)) r h =
     let same : r.sets ≡ sets = (checked_repair_some sets (clause_in most ws) r h).1 in
     (ws, ap (λ (s : List Literal). Some (s, ws)) (sym same), subst (λ (s : List Literal). checked_repair s (clause_in most ws) ≡ Some r) (sym same) h)
 
-pub repair_sound : (most : ℕ) (ws : List (List ℕ)) (r : Repair) → most < 2 ^ 64 → repair_in most ws ≡ Some r → (ws ≡ repair_words r) × IsProper most r
+pub repair_sound : (most : ℕ) (ws : List (List ℕ)) (r : Repair) → most ≤ greatest → repair_in most ws ≡ Some r → (ws ≡ repair_words r) × IsProper most r
 repair_sound most ws r small h =
     let p = repair_parts most (clause_in most ws) r h in
     let q = checked_repair_some r.sets (clause_in most p.0) r p.2 in
@@ -234,7 +234,7 @@ repair_sound most ws r small h =
       record { sets_normal = q.3; clause_normal = q.4; sets_some = q.2; sets_within = All-from_recursion (IsUpTo most) r.sets first.1; clause_within = All-from_recursion (IsUpTo most) r.clause second.1 },
     )
 
-pub repair_complete : (most : ℕ) (r : Repair) → most < 2 ^ 64 → IsProper most r → repair_in most (repair_words r) ≡ Some r
+pub repair_complete : (most : ℕ) (r : Repair) → most ≤ greatest → IsProper most r → repair_in most (repair_words r) ≡ Some r
 repair_complete most r small h =
     let first = clause_complete most r.sets (clause_words r.clause) small (recursion_from_All (IsUpTo most) r.sets h.sets_within) in
     let second : clause_in most (clause_words r.clause) ≡ Some (r.clause, []) = ap (clause_in most) (sym (append-nil (clause_words r.clause))) ∙ clause_complete most r.clause [] small (recursion_from_All (IsUpTo most) r.clause h.clause_within) in

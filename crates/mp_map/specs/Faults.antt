@@ -1,19 +1,10 @@
 -- Which line is at fault in a text that is the spelling of no map.
-use Rattle.std.specs.Prelude.{◌≡◌, ℕ, ◌+◌, ◌-◌, List, [], ◌∷◌, ◌++◌, length, take}
-use Rattle.std.specs.List.{count_by}
-use Rattle.mp_text.specs.Tokens.{ends_line}
+use Rattle.std.specs.Prelude.{◌≡◌, ℕ, List, [], ◌∷◌, ◌++◌}
+use Rattle.mp_text.specs.Lines.{end_line, line_behind}
 use Rattle.mp_map.specs.declared.maps.MapFile.{MapFile}
 use Rattle.mp_map.specs.declared.maps.MapError.{MapError}
 use Rattle.mp_map.specs.declared.maps.MapError.TheVariants as errors
 use Rattle.mp_map.specs.Maps.{IsMap, map_text}
-
--- the line of the byte behind these, from 1
-abbrev pub line_behind : List ℕ → ℕ
-line_behind front = 1 + count_by ends_line front
-
--- the line of the last byte, and 1 where there is none
-abbrev pub end_line : List ℕ → ℕ
-end_line text = line_behind (take (length text - 1) text)
 
 -- the text is the spelling of a valid map
 abbrev pub IsSpelling : List ℕ → Type 0

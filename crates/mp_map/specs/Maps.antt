@@ -1,12 +1,12 @@
 -- Maps and their one spelling.
-use Rattle.std.specs.Prelude.{◌≡◌, ℕ, ◌-◌, ◌^◌, ◌<◌, ◌≤◌, IsTrue, All, List, [], ◌∷◌, ◌++◌, length, map, codes, if◌then◌else◌}
+use Rattle.std.specs.Prelude.{◌≡◌, ℕ, ◌-◌, ◌^◌, ◌<◌, ◌≤◌, IsTrue, All, List, [], ◌∷◌, ◌++◌, length, map, codes}
 use Rattle.std.specs.Fmt.{decimal}
-use Rattle.std.specs.List.{flat_map, join_with_byte}
 use Rattle.mp_logic.specs.Carrying.{ReconstructionMap}
 use Rattle.mp_logic.specs.Labelled.{IsProper, names_rise}
-use Rattle.mp_logic.specs.Literal.{Literal}
 use Rattle.mp_logic.specs.Weights.{weight_bound}
 use Rattle.mp_logic.specs.declared.instances.Repair.{Repair}
+use Rattle.mp_text.specs.Lines.{text_of}
+use Rattle.mp_text.specs.Writing.{clause_words}
 use Rattle.mp_map.specs.declared.maps.MapFile.{MapFile}
 
 -- the greatest number of variables of an original instance
@@ -38,14 +38,6 @@ pub record IsMap (m : MapFile) : Type 0 where
 abbrev pub reconstruction_of : MapFile → ReconstructionMap
 reconstruction_of m = record { original = m.original; inner = m.inner; offset = m.offset; names = m.names; repairs = m.repairs }
 
--- a literal is its variable, with a `-` before it where it is negative
-abbrev pub literal_word : Literal → List ℕ
-literal_word l = if l.negative then 45 ∷ decimal l.variable else decimal l.variable
-
--- the literals of a clause, and 0
-abbrev pub clause_words : List Literal → List (List ℕ)
-clause_words c = map literal_word c ++ codes "0" ∷ []
-
 -- the literals that are set, 0, the literals of the clause, 0
 abbrev pub repair_words : Repair → List (List ℕ)
 repair_words r = clause_words r.sets ++ clause_words r.clause
@@ -62,10 +54,6 @@ map_lines m =
     ∷ (codes "repairs" ∷ decimal (length m.repairs) ∷ [])
     ∷ (map repair_words m.repairs ++ (codes "end" ∷ []) ∷ [])
 
--- words of a line are separated by one blank, and a line feed ends it
-abbrev pub line_text : List (List ℕ) → List ℕ
-line_text words = join_with_byte 32 words ++ 10 ∷ []
-
 -- the one spelling of a map
 abbrev pub map_text : MapFile → List ℕ
-map_text m = flat_map line_text (map_lines m)
+map_text m = text_of (map_lines m)

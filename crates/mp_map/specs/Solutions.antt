@@ -9,8 +9,8 @@ use Rattle.mp_text.specs.Numbers.{literal_of}
 use Rattle.mp_text.specs.Tokens.{begins_comment, tokens_of}
 use Rattle.mp_text.specs.declared.numbers.LitToken.{LitToken}
 use Rattle.mp_text.specs.declared.numbers.LitToken.TheVariants as kinds
-use Rattle.mp_map.specs.Faults.{end_line}
-use Rattle.mp_map.specs.Maps.{literal_word}
+use Rattle.mp_text.specs.Lines.{end_line}
+use Rattle.mp_text.specs.Writing.{literal_word}
 use Rattle.mp_map.specs.Pieces.{is_empty, pieces_at}
 use Rattle.mp_map.specs.declared.solutions.Answer.{Answer}
 use Rattle.mp_map.specs.declared.solutions.Answer.TheVariants as answers

@@ -1,10 +1,10 @@
 ghost use Rattle.std.specs.Prelude.{◌≡◌, ◌++◌, ◌∷◌, [], codes, not, IfOk, OnOk};
 ghost use Rattle.std.specs.Option.{option_copied};
-ghost use Rattle.mp_map.specs.Maps.{literal_word};
+ghost use Rattle.mp_text.specs.Writing.{literal_word};
 ghost use Rattle.mp_map.specs.Solutions.{answer_text, bits_text, cost_line, solution_text, values_line, values_text};
 
 use crate::solutions::{Answer, Values};
-use mp_logic::{Assignment, NoMemory};
+use mp_logic::{Assignment, NoMemory, Weight};
 use mp_text::{Bytes, TextBuf};
 use std::alloc::Global;
 
@@ -14,7 +14,7 @@ pub fn write_solution(
     answer: Answer,
     values: Option<&Assignment>,
     form: Values,
-    cost: Option<u64>,
+    cost: Option<Weight>,
 ) -> Result<Bytes, NoMemory>
     ensures { IfOk result (λ text. text ≡ solution_text answer (option_copied values.entry) form cost) }
 {
@@ -38,7 +38,7 @@ fn answer_words(answer: Answer) -> &'static [u8]
     }
 }
 
-fn write_cost(text: &mut TextBuf, cost: Option<u64>) -> Result<(), NoMemory>
+fn write_cost(text: &mut TextBuf, cost: Option<Weight>) -> Result<(), NoMemory>
     ensures { OnOk result (text.new ≡ text.old ++ cost_line cost) }
 {
     let Some(cost) = cost else {

@@ -4,7 +4,8 @@
 //! `write_map` promises the one spelling of a valid map, and `read_map` the map of a spelling (`found`) or the line of
 //! the first byte at fault (`refused`); `one_spelling` is the law that no two maps share one. `back` is `carried_back`.
 //! `read_solution` promises what a text reports (`found`) or the lowest line at fault (`refused`), and `write_solution`
-//! the text of a solution. The definitions are in `specs/Maps`, `specs/Faults` and `specs/Solutions`.
+//! the text of a solution. The definitions are in `specs/Maps`, `specs/Faults` and `specs/Solutions`; what words, lines and
+//! literals are is said in `mp_text`.
 #![tactic(auto)]
 
 mod answering;
@@ -23,6 +24,3 @@ pub use reconstruct::{back, room};
 pub use reporting::read_solution;
 pub use solutions::{Answer, Solution, SolutionError, Values};
 pub use spelling::write_map;
-
-#[cfg(test)]
-mod tests;

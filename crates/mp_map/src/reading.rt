@@ -10,9 +10,9 @@ use crate::words::{Pieces, cut, exact};
 use mp_logic::{Clause, ListOf, Lit, Names, NoMemory, Repair, WEIGHT_LIMIT, is_normal};
 use std::alloc::Global;
 
-const MOST_ORIGINAL: u64 = 8_388_607;
+const MOST_ORIGINAL: u128 = 8_388_607;
 
-const MOST_INNER: u64 = 16_777_215;
+const MOST_INNER: u128 = 16_777_215;
 
 /// The map of which the text is the spelling.
 ///
@@ -53,7 +53,7 @@ pub struct Reader {
 }
 
 /// The number of a line of a word and a number.
-fn number(words: &mut Pieces, word: &[u8], most: u64) -> Option<u64>
+fn number(words: &mut Pieces, word: &[u8], most: u128) -> Option<u128>
     ensures value { result ≡ number_in word.now most words.old }
     ensures most { IfSome result (λ n. n ≤ most) }
 {
@@ -73,7 +73,7 @@ fn numbers(alloc: Global, words: &mut Pieces, most: u32) -> Result<Option<Names>
 {
     let mut made = ListOf::new(alloc);
     while let Some(word) = words.next_piece() {
-        let Some(n) = exact(word, u64::from(most)) else {
+        let Some(n) = exact(word, u128::from(most)) else {
             return Ok(None);
         };
         made.push(n as u32)?;
@@ -118,7 +118,7 @@ fn names(
     Ok(None)
 }
 
-fn with_sign(negative: bool, value: Option<u64>) -> Option<Lit>
+fn with_sign(negative: bool, value: Option<u128>) -> Option<Lit>
     requires { IfSome value (λ n. n < 4294967296) }
     ensures { result ≡ signed negative value }
 {
@@ -135,16 +135,16 @@ fn literal(word: &[u8], most: u32) -> Option<Lit>
 {
     let (first, others) = word.split_first()?;
     if *first == b'-' {
-        return with_sign(true, exact(others, u64::from(most)));
+        return with_sign(true, exact(others, u128::from(most)));
     }
-    with_sign(false, exact(word, u64::from(most)))
+    with_sign(false, exact(word, u128::from(most)))
 }
 
 /// Literals up to a 0.
 fn clause(alloc: Global, words: &mut Pieces, most: u32) -> Result<Option<Clause>, NoMemory>
     ensures { IfOk result (λ found. MatchOption found (clause_in most words.old ≡ None) (λ c. clause_in most words.old ≡ Some (c, words.new))) }
 {
-    let mut made = ListOf::new(alloc);
+    let mut made = Clause::new(alloc);
     while let Some(word) = words.next_piece() {
         if word == b"0".as_slice() {
             return Ok(Some(made));
@@ -241,7 +241,7 @@ impl Reader {
         let Some(inner) = number(words, b"inner", MOST_INNER) else {
             return false;
         };
-        if inner < u64::from(self.map.original) {
+        if inner < u128::from(self.map.original) {
             return false;
         }
         self.map.inner = inner as u32;
@@ -254,7 +254,7 @@ impl Reader {
         ensures { MatchBool result (next self.old words.old ≡ Some self.new) (next self.old words.old ≡ None) }
     {
         let inner = self.map.inner;
-        let Some(written) = number(words, b"written", u64::from(inner)) else {
+        let Some(written) = number(words, b"written", u128::from(inner)) else {
             return false;
         };
         self.map.written = written as u32;
@@ -290,11 +290,11 @@ impl Reader {
         requires { self.old.expects ≡ Expects.Count }
         ensures { MatchBool result (next self.old words.old ≡ Some self.new) (next self.old words.old ≡ None) }
     {
-        let Some(left) = number(words, b"repairs", most_repairs(self.map.inner)) else {
+        let Some(left) = number(words, b"repairs", u128::from(most_repairs(self.map.inner))) else {
             return false;
         };
-        self.left = left;
-        self.expects = before(left);
+        self.left = left as u64;
+        self.expects = before(self.left);
         true
     }
 

@@ -3,7 +3,7 @@ ghost use Rattle.std.specs.List.{list_all};
 ghost use Rattle.std.specs.Str.{bytes_eq};
 ghost use Rattle.mp_text.specs.Numbers.{literal_of};
 ghost use Rattle.mp_text.specs.Tokens.{begins_comment};
-ghost use Rattle.mp_map.specs.Faults.{end_line};
+ghost use Rattle.mp_text.specs.Lines.{end_line};
 ghost use Rattle.mp_map.specs.Pieces.{pieces_at};
 ghost use Rattle.mp_map.specs.Solutions.{kind_of, status_of, words_on, solution_lines, status_in, first_wrong, is_wrong, is_status, is_values, has_values, behind_v, value_words, demand_of, answer_from, is_bits, bits_in, first_wrong_word, literals_in, words_fault, values_from, values_fault, values_told, lower, Reports, IsSolutionFault, solution_fault, ValueWord};
 ghost use Rattle.mp_map.specs.Marking.{marked, marked_apart, AnswersValues};
@@ -11,7 +11,7 @@ ghost use Rattle.mp_map.specs.Marking.{marked, marked_apart, AnswersValues};
 use crate::solutions::{Answer, Solution, SolutionError};
 use crate::words::Pieces;
 use mp_logic::{Assignment, ListOf, NoMemory};
-use mp_text::{Cursor, LitToken, literal};
+use mp_text::{Cursor, LitToken, last_line, literal};
 use std::alloc::Global;
 use std::marker::Model;
 
@@ -178,16 +178,6 @@ fn has_values(text: &[u8]) -> bool
     false
 }
 
-/// The line of the last byte, and 1 of the empty text.
-fn end_line(text: &[u8]) -> u64
-    ensures { result ≡ end_line text.now }
-{
-    1 + text[..text.len().saturating_sub(1)]
-        .iter()
-        .filter(|b| **b == b'\n')
-        .count() as u64
-}
-
 /// A word behind a `v`, and its line from 1.
 #[derive(Clone, Copy, Debug)]
 struct Found<'a> {
@@ -340,7 +330,7 @@ fn mark_apart(own: &mut Assignment, other: &Assignment, variable: u128) -> bool
 }
 
 /// Marks the variable of a literal, and says whether the word can stand behind those that are marked.
-#[tactic(auto, using(crate::proofs::Marked::literal_from_one))]
+#[tactic(auto, using(mp_text::proofs::Spelled::literal_from_one))]
 fn mark(plain: &mut Assignment, negated: &mut Assignment, word: &[u8]) -> bool
     requires { length negated.old ≡ length plain.old }
     ensures marked { MatchBool result (marked (record { positive = plain.old; negative = negated.old }) (literal_of word.now) ≡ Some (record { positive = plain.new; negative = negated.new }))
@@ -409,7 +399,7 @@ fn values(alloc: Global, text: &[u8], written: u32) -> Result<Option<Assignment>
                 return Ok(Some(told(alloc, text, written)?));
             }
             Err(SolutionError::BadSolution {
-                line: end_line(text),
+                line: last_line(text),
             })
         }
     }

@@ -1,6 +1,8 @@
 ghost use Rattle.std.specs.Prelude.{◌≡◌, ◌++◌, ◌∷◌, [], codes, decimal, map, IfOk, OnOk};
 ghost use Rattle.std.specs.List.{join_with_byte};
-ghost use Rattle.mp_map.specs.Maps.{IsMap, line_text, map_text, literal_word, clause_words, repair_words};
+ghost use Rattle.mp_text.specs.Lines.{line_text};
+ghost use Rattle.mp_text.specs.Writing.{literal_word, clause_words};
+ghost use Rattle.mp_map.specs.Maps.{IsMap, map_text, repair_words};
 
 use crate::maps::MapFile;
 use mp_logic::{Clause, Lit, Names, NoMemory, Repair};
@@ -17,7 +19,7 @@ pub fn write_map(alloc: Global, map: &MapFile) -> Result<Bytes, NoMemory>
     write_number(&mut text, b"original", u128::from(map.original))?;
     write_number(&mut text, b"inner", u128::from(map.inner))?;
     write_number(&mut text, b"written", u128::from(map.written))?;
-    write_number(&mut text, b"offset", u128::from(map.offset))?;
+    write_number(&mut text, b"offset", map.offset)?;
     write_names(&mut text, &map.names)?;
     write_number(&mut text, b"repairs", map.repairs.len() as u128)?;
     for repair in map.repairs.items() {

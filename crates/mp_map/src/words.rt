@@ -84,13 +84,12 @@ fn has_leading_zero(text: &[u8]) -> bool
 }
 
 /// The value of a number in its one spelling, without leading zeros, where it is at most this.
-pub fn exact(text: &[u8], most: u64) -> Option<u64>
+pub fn exact(text: &[u8], most: u128) -> Option<u128>
     ensures value { result ≡ exact_of most text.now }
     ensures most { IfSome result (λ n. n ≤ most) }
 {
     if has_leading_zero(text) {
         return None;
     }
-    let value = natural(text, u128::from(most))?;
-    Some(value as u64)
+    natural(text, most)
 }

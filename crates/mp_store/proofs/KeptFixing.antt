@@ -16,15 +16,19 @@ use Rattle.mp_logic.specs.declared.instances.Cost.{Cost}
 use Rattle.mp_logic.proofs.Members.{Contains-none, Contains-first, Contains-later, Contains-cases, Contains-one, satisfied}
 use Rattle.mp_logic.proofs.Literals.{negation-negation, negation_false, same_or_negation}
 use Rattle.mp_logic.proofs.Fixed.{fixing_keeps}
-use Rattle.mp_store.specs.Places.{place_of, literal_at, has, is_in}
-use Rattle.mp_store.specs.Held.{Held, clause_of, live_clauses, has_empty, costs_from, costs_of, weight_in, labelled_of}
-use Rattle.mp_store.specs.Rewriting.{cleared, weighted, weights_after, changed_by, refuted_by, HasOneCostEach}
+use Rattle.mp_clauses.specs.Places.{place_of, literal_at, has, is_in}
+use Rattle.mp_store.specs.Held.{Held, labelled_of}
+use Rattle.mp_clauses.specs.Slots.{clause_of, live_clauses, has_empty}
+use Rattle.mp_clauses.specs.Weighing.{costs_from, costs_of, weight_in}
+use Rattle.mp_clauses.specs.Slots.{cleared}
+use Rattle.mp_clauses.specs.Weighing.{weighted}
+use Rattle.mp_store.specs.Rewriting.{weights_after, changed_by, refuted_by, HasOneCostEach}
 use Rattle.mp_store.specs.Soundness.{IsStore}
 use Rattle.mp_store.specs.Fixing.{meets, clashes, without, slot_touched, touched_by, shortened, paid_off_one, fixing_of}
 use Rattle.mp_store.specs.Laws.{RefutingKeeps, FixingKeepsStore}
-use Rattle.mp_store.proofs.Pricing.{cost_at, sum-costs, literal-place, place-literal, costs_from-zeros}
+use Rattle.mp_clauses.proofs.Pricing.{cost_at, sum-costs, literal-place, place-literal, costs_from-zeros}
 use Rattle.mp_store.proofs.Sound.{live-after, live-cleared, table-after, costs-within, refuted-live}
-use Rattle.mp_store.proofs.Found.{any-by, any-found, has-by, has-contains, ids_where-at}
+use Rattle.mp_clauses.proofs.Found.{any-by, any-found, has-by, has-contains, ids_where-at}
 use Rattle.mp_store.proofs.Fixes.{weights-fixed, fixing-valid, one-literal, set-zero, AreDistinct, shortened-from, shortened-has, filter-from, filter-has}
 
 -- a live clause by its id
@@ -86,7 +90,7 @@ clashes-one u c h = any-by (λ l. has (place_of (negation l)) (u ∷ [])) c (neg
 pub negated-one : (u l : Literal) → has (place_of (negation l)) (u ∷ []) ≡ true → l ≡ negation u
 negated-one u l h = sym (negation-negation l) ∙ ap negation (one-has u (negation l) h)
 
-is-without : (u : Literal) (c : List Literal) → IsWithout u c (without (u ∷ []) c)
+pub is-without : (u : Literal) (c : List Literal) → IsWithout u c (without (u ∷ []) c)
 is-without u c = record {
   rest = λ k h. elim (cases_Bool (has (place_of (negation k)) (u ∷ []))) [
     | inl t ↦ inr (negated-one u k t)
@@ -209,7 +213,7 @@ record PaidTable (u : Literal) (w new : List ℕ) : Type 0 where
 not-itself : (u : Literal) → place_of u ≢ place_of (negation u)
 not-itself u e = differ u.negative (cond u.negative 1 0) (cond (not u.negative) 1 0) refl refl (omega arith)
 
-variable_pair : (u : Literal) (w : List ℕ) → HasOneCostEach w → weight_in w u ≢ 0 → weight_in w (negation u) ≡ 0
+pub variable_pair : (u : Literal) (w : List ℕ) → HasOneCostEach w → weight_in w u ≢ 0 → weight_in w (negation u) ≡ 0
 variable_pair u w o n = pair_by u.variable u.negative w o n
 
 paid-table : (u : Literal) (w : List ℕ) → HasOneCostEach w → PaidTable u w (weighted (paid_off_one w u) w)

@@ -8,7 +8,7 @@ use Rattle.std.proofs.lemmas.Grind.{pow_more}
 use Rattle.std.proofs.Math.Nat.{pow-le-pow_right}
 use Rattle.mp_text.specs.Numbers.{value_after, decimal_after, at_most}
 
-value_grows : (n : ℕ) (ds : List ℕ) → n ≤ value_after n ds
+pub value_grows : (n : ℕ) (ds : List ℕ) → n ≤ value_after n ds
 value_grows n [] = omega arith
 value_grows n (d ∷ ds) = omega (arith, value_grows (10 * n + (d - 48)) ds)
 

@@ -4,3 +4,4 @@ pub mod Numbers
 pub mod Slices
 pub mod Spelling
 pub mod Tokens
+pub mod Writing

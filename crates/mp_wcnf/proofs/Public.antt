@@ -1,8 +1,8 @@
 -- The clauses of the public calls, each from what reading all tokens gives.
-use Rattle.std.proofs.Common.{◌≡◌, ◌≢◌, ◌⊎◌, ◌≤◌, ℕ, Bool, true, false, List, [], ◌∷◌, ◌++◌, Option, Some, None, Result, Ok, Err, All, refl, ap, subst, sym, ◌∙◌, arith, if◌then◌else◌, inl, inr}
-use Rattle.std.specs.Prelude.{nat_eq, nat_lt, fold, IfErr, IsErrAnd, MatchResult}
+use Rattle.std.proofs.Common.{◌≡◌, ◌≢◌, ◌⊎◌, ◌≤◌, ℕ, Bool, true, false, List, [], ◌∷◌, ◌++◌, Option, Some, None, Result, Ok, Err, All, refl, ap, subst, sym, ◌∙◌, arith, inl, inr}
+use Rattle.std.specs.Prelude.{nat_lt, fold, IfErr, IsErrAnd, MatchResult}
 use Rattle.std.specs.List.{AllByRecursion, flat_map}
-use Rattle.std.proofs.lemmas.Bool.{true≢false, eqb-false, ltb-false}
+use Rattle.std.proofs.lemmas.Bool.{true≢false, ltb-false}
 use Rattle.std.proofs.lemmas.List.Elements.{All-from_recursion}
 use Rattle.std.proofs.lemmas.List.Concat.{flat_map-cons}
 use Rattle.mp_logic.specs.Literal.{Literal, IsUpTo}
@@ -10,12 +10,11 @@ use Rattle.mp_logic.specs.Formula.{Formula, IsFormula}
 use Rattle.mp_logic.specs.declared.instances.Soft.{Soft}
 use Rattle.mp_logic.specs.declared.limits.Limits.{Limits}
 use Rattle.mp_text.specs.Tokens.{Word, tokens_of}
-use Rattle.mp_text.specs.Numbers.{natural_of, at_most, greatest, positive, negative, literal_of}
-use Rattle.mp_text.specs.declared.numbers.LitToken.{LitToken}
-use Rattle.mp_text.specs.declared.numbers.LitToken.TheVariants as kinds
 use Rattle.mp_wcnf.specs.Grammar.{Header, Item, AreLiterals, IsOpen, AreClauses, top_of}
 use Rattle.mp_wcnf.specs.Meaning.{max_of, widest, size_of, vars_of, hard_of, soft_of, formula_of, Denotes}
-use Rattle.mp_wcnf.specs.Refusals.{IsWithinLimits, IsRefused, end_line, OneMeaning}
+use Rattle.mp_wcnf.specs.Refusals.{IsWithinLimits, IsRefused, OneMeaning}
+use Rattle.mp_text.specs.Lines.{end_line}
+use Rattle.mp_text.proofs.Spelled.{literal_from_one}
 use Rattle.mp_wcnf.specs.Reading.{read_on, fresh_reader, Fails}
 use Rattle.mp_wcnf.specs.declared.reader.Reader.{Reader}
 use Rattle.mp_wcnf.specs.declared.errors.ReadError.{ReadError}
@@ -114,46 +113,14 @@ failed_so m text e (Ok i) z g d k = absurd z
 failed_so m text e (Err x) i g d k = elim (one_error m text e g d k) [ inl s ↦ inl (i ∙ s) | inr n ↦ inr (i ∙ n) ]
 
 -- the variables of an instance that was read
-variable_in : Option LitToken → ℕ
-variable_in None = 1
-variable_in (Some kinds.Close) = 1
-variable_in (Some (kinds.Lit v n)) = v
-
-from_one : (n : ℕ) (b : Bool) (x : Option LitToken) → 1 ≤ variable_in x → (nat_eq n 0 ≡ b) → 1 ≤ variable_in (if b then x else Some (kinds.Lit n true)) × (1 ≤ variable_in (if b then x else Some (kinds.Lit n false)))
-unfolding variable_in
-from_one n true x h e = (h, h)
-from_one n false x h e = let no : n ≡ 0 → ⊥ = eqb-false n 0 e in let k : 1 ≤ n = omega (arith, no) in (k, k)
-
-positive_from : (x : Option ℕ) → 1 ≤ variable_in (positive x)
-unfolding variable_in
-positive_from None = omega arith
-positive_from (Some n) = (from_one n (nat_eq n 0) (Some kinds.Close) (omega arith) refl).1
-
-negative_from : (x : Option ℕ) → 1 ≤ variable_in (negative x)
-unfolding variable_in
-negative_from None = omega arith
-negative_from (Some n) = (from_one n (nat_eq n 0) None (omega arith) refl).0
-
-literal_from : (text : List ℕ) → 1 ≤ variable_in (literal_of text)
-unfolding variable_in
-literal_from [] = omega arith
-literal_from (b ∷ bs) =
-    let step : (t : Bool) → 1 ≤ variable_in (if t then negative (at_most greatest (natural_of bs)) else positive (at_most greatest (natural_of (b ∷ bs)))) =
-    λ (t : Bool). elim t as (λ t. 1 ≤ variable_in (if t then negative (at_most greatest (natural_of bs)) else positive (at_most greatest (natural_of (b ∷ bs))))) [
-      | true ↦ negative_from (at_most greatest (natural_of bs))
-      | false ↦ positive_from (at_most greatest (natural_of (b ∷ bs)))
-    ] in
-    step (nat_eq b 45)
-
 abbrev FromOne : Literal → Type 0
 FromOne l = 1 ≤ l.variable
 
 literals_from : (ws : List Word) (ls : List Literal) → AreLiterals ws ls → AllByRecursion FromOne ls
-unfolding variable_in
 literals_from [] [] k = tt
 literals_from [] (l ∷ ls) k = absurd k
 literals_from (w ∷ ws) [] k = absurd k
-literals_from (w ∷ ws) (l ∷ ls) k = (subst (λ n. 1 ≤ n) (ap variable_in k.0) (literal_from w.text), literals_from ws ls k.1)
+literals_from (w ∷ ws) (l ∷ ls) k = (literal_from_one w.text l.variable l.negative k.0, literals_from ws ls k.1)
 
 open_from : (top : Option ℕ) (ws : List Word) (i : Item) → IsOpen top ws i → AllByRecursion FromOne i.lits
 open_from top [] i k = absurd k

@@ -4,6 +4,7 @@ use Rattle.std.specs.Prelude.{nat_le, ◌&&◌, fold}
 use Rattle.std.specs.Fmt.{decimal}
 use Rattle.std.specs.Str.{bytes_eq, all_ascii_digits}
 use Rattle.std.specs.List.{AllByRecursion, flat_map}
+use Rattle.std.proofs.Math.Bool.{and-false}
 use Rattle.std.proofs.lemmas.Slice.Eq.{bytes_eq-Decides}
 use Rattle.std.proofs.lemmas.Bool.{le-leb, lt-leb, le-ltb, false_from_ne_true, false≢true, and_from}
 use Rattle.std.proofs.lemmas.List.{append-nil, map-append}
@@ -23,7 +24,8 @@ use Rattle.mp_text.proofs.Lines.{plain, body, tokens_in, tokens_of_lines}
 use Rattle.mp_text.proofs.Spelled.{number_is_word, number_no_comment, number_is_digits, number_is_kept, positive_is_read, negative_is_read}
 use Rattle.mp_wcnf.specs.Grammar.{Header, Item, number_of, weighed, head_of, AreLiterals, IsClause, AreClauses, IsLine, IsHeader, GoesBehind, top_of}
 use Rattle.mp_wcnf.specs.Meaning.{widest, size_of, vars_of, hard_of, soft_of, formula_of, WordsDenote, Denotes}
-use Rattle.mp_wcnf.specs.Writing.{literal_word, clause_words, top_weight, hard_mark, hard_line, soft_line, offset_line, header_lines, instance_lines, instance_text, IsTight}
+use Rattle.mp_text.specs.Writing.{literal_word, clause_words}
+use Rattle.mp_wcnf.specs.Writing.{top_weight, hard_mark, hard_line, soft_line, offset_line, header_lines, instance_lines, instance_text, IsTight}
 use Rattle.mp_wcnf.specs.declared.writer.Form.{Form}
 use Rattle.mp_wcnf.specs.declared.writer.Form.TheVariants as forms
 use Rattle.mp_wcnf.proofs.Sums.{item}
@@ -206,7 +208,7 @@ soft_head_h w k = ap (λ t. if t then Some None else weighed 0 (number_of (decim
 soft_head_p : (w top : ℕ) → w ≤ greatest → w < top → head_of (Some top) (decimal w) ≡ Some (Some w)
 soft_head_p w top k l =
     ap (weighed top) (number_is_kept w k) ∙ ap (λ t. if nat_le 1 top && t then Some None else Some (Some w)) (lt-leb top w l)
-    ∙ ap (λ t. if t then Some None else Some (Some w)) (let and_false : (b : Bool) → (b && false) ≡ false = λ (b : Bool). elim b as (λ b. (b && false) ≡ false) [ true ↦ refl | false ↦ refl ] in and_false (nat_le 1 top))
+    ∙ ap (λ t. if t then Some None else Some (Some w)) (and-false (nat_le 1 top))
 
 hard_head_p : (top : ℕ) → 1 ≤ top → top ≤ greatest → head_of (Some top) (decimal top) ≡ Some None
 hard_head_p top k l =

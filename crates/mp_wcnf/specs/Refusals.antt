@@ -1,12 +1,12 @@
 -- Which limits an instance keeps within, and which token of a text is refused.
-use Rattle.std.specs.Prelude.{◌≡◌, ◌≤◌, ◌⊎◌, ℕ, ◌+◌, ◌-◌, true, List, [], ◌∷◌, ◌++◌, Option, Some, None, if◌then◌else◌, nat_lt, length, take, sum_by}
-use Rattle.std.specs.List.{count_by}
+use Rattle.std.specs.Prelude.{◌≡◌, ◌≤◌, ◌⊎◌, ℕ, ◌+◌, true, List, [], ◌∷◌, ◌++◌, Option, Some, None, if◌then◌else◌, nat_lt, length, sum_by}
 use Rattle.mp_logic.specs.Literal.{Literal}
 use Rattle.mp_logic.specs.Formula.{Formula}
 use Rattle.mp_logic.specs.Truth.{weights_of}
 use Rattle.mp_logic.specs.declared.instances.Soft.{Soft}
 use Rattle.mp_logic.specs.declared.limits.Limits.{Limits}
-use Rattle.mp_text.specs.Tokens.{Word, tokens_of, ends_line}
+use Rattle.mp_text.specs.Lines.{end_line}
+use Rattle.mp_text.specs.Tokens.{Word, tokens_of}
 use Rattle.mp_wcnf.specs.Grammar.{Header, Item, AreClauses, IsOpen, IsLine, IsHeaderPart, IsHeading, GoesBehind, top_of}
 use Rattle.mp_wcnf.specs.Meaning.{formula_of, Denotes}
 use Rattle.mp_wcnf.specs.declared.errors.ReadError.{ReadError}
@@ -95,10 +95,6 @@ pub record AreRefused (limits : Limits) (end : ℕ) (words : List Word) (e : Rea
   pub within : IsWithinLimits limits (begun front)
   pub fault : ((words ≡ before) × (unfinished end front ≡ Some e))
       ⊎ ((word : Word) × (after : List Word) × (words ≡ before ++ word ∷ after) × IsFault limits before front word e)
-
--- the line of the last byte
-abbrev pub end_line : List ℕ → ℕ
-end_line text = 1 + count_by ends_line (take (length text - 1) text)
 
 -- the text is refused so, by the first of its tokens that is at fault
 abbrev pub IsRefused : Limits → List ℕ → ReadError → Type 0

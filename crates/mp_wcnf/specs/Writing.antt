@@ -1,21 +1,19 @@
 -- The text that is written of an instance.
-use Rattle.std.specs.Prelude.{◌≡◌, ℕ, ◌+◌, List, [], ◌∷◌, ◌++◌, if◌then◌else◌, length, map, fold, codes, decimal}
+use Rattle.std.specs.Prelude.{◌≡◌, ℕ, ◌+◌, List, [], ◌∷◌, ◌++◌, length, map, fold, codes, decimal}
+use Rattle.std.specs.List.{flat_map}
 use Rattle.mp_logic.specs.Literal.{Literal}
 use Rattle.mp_logic.specs.Formula.{Formula}
 use Rattle.mp_logic.specs.Truth.{weights_of}
 use Rattle.mp_logic.specs.declared.instances.Soft.{Soft}
 use Rattle.mp_text.specs.Lines.{text_of}
+use Rattle.mp_text.specs.Writing.{literal_word, clause_words}
 use Rattle.mp_wcnf.specs.Meaning.{widest}
 use Rattle.mp_wcnf.specs.declared.writer.Form.{Form}
 use Rattle.mp_wcnf.specs.declared.writer.Form.TheVariants as forms
 
--- a literal: its variable, with `-` before it where it is negative
-abbrev pub literal_word : Literal → List ℕ
-literal_word l = if l.negative then codes "-" ++ decimal l.variable else decimal l.variable
-
--- the literals of a clause and 0
-abbrev pub clause_words : List Literal → List (List ℕ)
-clause_words c = map literal_word c ++ codes "0" ∷ []
+-- what stands behind the first word of a clause's line
+abbrev pub clause_rest : List Literal → List ℕ
+clause_rest c = flat_map (λ l. codes " " ++ literal_word l) c ++ codes " 0\n"
 
 -- the weight of hard clauses in the P form: one more than all soft clauses weigh
 abbrev pub top_weight : Formula → ℕ

@@ -3,12 +3,12 @@ ghost use Rattle.std.specs.Str.{bytes_eq};
 ghost use Rattle.mp_text.specs.Tokens.{tokens_of};
 ghost use Rattle.mp_text.specs.Numbers.{literal_of};
 ghost use Rattle.mp_wcnf.specs.Grammar.{head_of};
-ghost use Rattle.mp_wcnf.specs.Refusals.{end_line};
+ghost use Rattle.mp_text.specs.Lines.{end_line};
 ghost use Rattle.mp_wcnf.specs.Reading.{word_of, started, formatted, sized, counted, closed, continued, step, read_on, fresh_reader, Fails, Gives};
 
 use crate::errors::ReadError;
 use mp_logic::{Clause, Clauses, Limits, ListOf, Lit, Soft, Softs, Weight};
-use mp_text::{Cursor, LitToken, Token, literal, natural};
+use mp_text::{Cursor, LitToken, Token, last_line, literal, natural};
 use std::alloc::Global;
 
 /// What the next token is to be.
@@ -55,7 +55,7 @@ pub fn read_all(alloc: Global, text: &[u8], limits: &Limits) -> Result<Reader, R
     let mut reader = Reader {
         hard: ListOf::new(alloc),
         soft: ListOf::new(alloc),
-        lits: ListOf::new(alloc),
+        lits: Clause::new(alloc),
         vars: 0,
         clauses: 0,
         literals: 0,
@@ -76,14 +76,6 @@ pub fn read_all(alloc: Global, text: &[u8], limits: &Limits) -> Result<Reader, R
         }),
         Place::Start | Place::Top | Place::LineEnd | Place::Between => Ok(reader),
     }
-}
-
-/// The line of the last byte.
-fn last_line(text: &[u8]) -> u64
-    ensures { result ≡ end_line text.now }
-{
-    let front = &text[..text.len().saturating_sub(1)];
-    1 + front.iter().filter(|byte| **byte == b'\n').count() as u64
 }
 
 /// One more token.
@@ -238,11 +230,11 @@ fn begin(reader: &mut Reader, limits: &Limits, token: &Token<'_>) -> Result<(), 
             reader.place = Place::Hard;
         }
         Some(weight) => {
-            if weight > u128::from(limits.weight - reader.weight) {
+            if weight > limits.weight - reader.weight {
                 return Err(ReadError::TooHeavy { line });
             }
-            reader.weight += weight as Weight;
-            reader.place = Place::Soft(weight as Weight);
+            reader.weight += weight;
+            reader.place = Place::Soft(weight);
         }
     }
     reader.clauses += 1;
@@ -315,12 +307,12 @@ fn close(alloc: Global, reader: &mut Reader) -> Result<(), ReadError>
 {
     match reader.place {
         Place::Hard => {
-            let clause = std::mem::replace(&mut reader.lits, ListOf::new(alloc));
+            let clause = std::mem::replace(&mut reader.lits, Clause::new(alloc));
             reader.hard.push(clause)?;
             reader.place = Place::Between;
         }
         Place::Soft(weight) => {
-            let clause = std::mem::replace(&mut reader.lits, ListOf::new(alloc));
+            let clause = std::mem::replace(&mut reader.lits, Clause::new(alloc));
             reader.soft.push(Soft { weight, clause })?;
             reader.place = Place::Between;
         }

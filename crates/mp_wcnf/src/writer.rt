@@ -1,9 +1,10 @@
 ghost use Rattle.std.specs.Prelude.{◌≡◌, ◌+◌, ◌<◌, ◌++◌, ◌∷◌, [], IfOk, OnOk, length, map, codes};
 ghost use Rattle.mp_logic.specs.Truth.{weights_of};
 ghost use Rattle.mp_logic.specs.Weights.{weight_bound};
-ghost use Rattle.mp_text.specs.Lines.{line_rest, line_text, text_of};
+ghost use Rattle.mp_text.specs.Lines.{line_text, text_of};
+ghost use Rattle.mp_text.specs.Writing.{literal_word};
 ghost use Rattle.mp_wcnf.specs.Meaning.{Denotes};
-ghost use Rattle.mp_wcnf.specs.Writing.{literal_word, clause_words, offset_line, header_lines, hard_line, soft_line, top_weight, instance_text, IsTight};
+ghost use Rattle.mp_wcnf.specs.Writing.{clause_rest, offset_line, header_lines, hard_mark, hard_line, soft_line, top_weight, instance_text, IsTight};
 
 use mp_logic::{Clause, Clauses, Instance, Lit, NoMemory, Soft, Softs, Weight};
 use mp_text::{Bytes, TextBuf};
@@ -42,11 +43,11 @@ pub fn write(
 }
 
 /// One more than all soft clauses weigh, so that no soft clause has the weight of a hard one.
-fn top_weight(instance: &Instance) -> u128
+fn top_weight(instance: &Instance) -> Weight
     requires { weights_of instance.now.soft < weight_bound }
     ensures { result ≡ top_weight instance.now }
 {
-    u128::from(total_weight(instance.soft.items())) + 1
+    total_weight(instance.soft.items()) + 1
 }
 
 /// What all soft clauses weigh together.
@@ -69,7 +70,7 @@ fn write_offset(text: &mut TextBuf, offset: Weight) -> Result<(), NoMemory>
     ensures { OnOk result (text.new ≡ text.old ++ line_text (offset_line offset)) }
 {
     text.word(b"c offset ")?;
-    text.number(u128::from(offset))?;
+    text.number(offset)?;
     text.word(b"\n")
 }
 
@@ -78,7 +79,7 @@ fn write_header(
     text: &mut TextBuf,
     vars: u128,
     clauses: u128,
-    top: u128,
+    top: Weight,
     form: Form,
 ) -> Result<(), NoMemory>
     ensures { OnOk result (text.new ≡ text.old ++ text_of (header_lines form vars clauses top)) }
@@ -98,7 +99,12 @@ fn write_header(
 }
 
 /// The lines of hard clauses.
-fn write_hards(text: &mut TextBuf, clauses: &Clauses, form: Form, top: u128) -> Result<(), NoMemory>
+fn write_hards(
+    text: &mut TextBuf,
+    clauses: &Clauses,
+    form: Form,
+    top: Weight,
+) -> Result<(), NoMemory>
     ensures { OnOk result (text.new ≡ text.old ++ text_of (map (hard_line form top) clauses.now)) }
 {
     for clause in clauses.items() {
@@ -118,27 +124,34 @@ fn write_softs(text: &mut TextBuf, softs: &Softs) -> Result<(), NoMemory>
 }
 
 /// A line of a hard clause.
-fn write_hard(text: &mut TextBuf, clause: &Clause, form: Form, top: u128) -> Result<(), NoMemory>
+fn write_hard(text: &mut TextBuf, clause: &Clause, form: Form, top: Weight) -> Result<(), NoMemory>
     ensures { OnOk result (text.new ≡ text.old ++ line_text (hard_line form top clause.now)) }
 {
-    match form {
-        Form::H => text.word(b"h")?,
-        Form::P => text.number(top)?,
-    }
+    write_mark(text, form, top)?;
     write_clause(text, clause.items())
+}
+
+/// The first word of a hard clause.
+fn write_mark(text: &mut TextBuf, form: Form, top: Weight) -> Result<(), NoMemory>
+    ensures { OnOk result (text.new ≡ text.old ++ hard_mark form top) }
+{
+    match form {
+        Form::H => text.word(b"h"),
+        Form::P => text.number(top),
+    }
 }
 
 /// A line of a soft clause.
 fn write_soft(text: &mut TextBuf, soft: &Soft) -> Result<(), NoMemory>
     ensures { OnOk result (text.new ≡ text.old ++ line_text (soft_line soft.now)) }
 {
-    text.number(u128::from(soft.weight))?;
+    text.number(soft.weight)?;
     write_clause(text, soft.clause.items())
 }
 
 /// The literals of a clause, its closing 0 and the end of the line.
 fn write_clause(text: &mut TextBuf, lits: &[Lit]) -> Result<(), NoMemory>
-    ensures { OnOk result (text.new ≡ text.old ++ line_rest (clause_words lits.now)) }
+    ensures { OnOk result (text.new ≡ text.old ++ clause_rest lits.now) }
 {
     for lit in lits {
         write_literal(text, *lit)?;

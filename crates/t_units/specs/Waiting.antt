@@ -1,7 +1,7 @@
--- Inside the technique: which unit clauses wait, and what is left of the budget.
-use Rattle.std.specs.Prelude.{◌≡◌, ◌⊎◌, ℕ, ◌+◌, ◌<◌, ◌≤◌, List, [], ◌∷◌, length, Option, Some, None, Contains}
+-- Inside the technique: which unit clauses wait.
+use Rattle.std.specs.Prelude.{◌≡◌, ◌⊎◌, ℕ, ◌<◌, List, [], ◌∷◌, Option, Some, Contains}
 use Rattle.mp_logic.specs.Literal.{Literal}
-use Rattle.mp_store.specs.Held.{Held, clause_of}
+use Rattle.mp_clauses.specs.Slots.{clause_of}
 
 -- each unit clause of an id below a number waits
 abbrev pub AreWaiting : List (Option (List Literal)) → ℕ → List ℕ → Type 0
@@ -22,8 +22,3 @@ IsNoUnit slot = (l : Literal) → slot ≡ Some (l ∷ []) → ⊥
 -- no slot has a unit clause
 abbrev pub HasNoUnit : List (Option (List Literal)) → Type 0
 HasNoUnit slots = (id : ℕ) → IsNoUnit (clause_of slots id)
-
--- so many turns are left of the budget, and each one that is gone has put no more than one repair last
-abbrev pub ArePaid : Option ℕ → Option ℕ → Held → Held → Type 0
-ArePaid None left old now = left ≡ None
-ArePaid (Some b) left old now = (n : ℕ) × (left ≡ Some n) × (length now.repairs + n ≤ length old.repairs + b)

@@ -2,18 +2,23 @@
 //! with it go, the others lose its negation, and where it has a cost that is paid for good. No other model is lost and no
 //! cost changes, and the one repair makes the literal true again.
 //!
+//! The one candidate is the store itself: a turn fixes the literal of the unit clause of lowest id, and then the store waits
+//! for its next turn. So finding that no unit is left is a turn too.
+//!
 //! A turn costs what its literal's two occurrence lists hold. Unit clauses wait by id, and each id is looked at once, so
 //! that no turn walks over all clauses.
 ghost use Rattle.std.specs.Prelude.{◌≡◌, ◌≤◌, ◌+◌, [], ◌∷◌, IfOk, IfSome, OnOk, OnErr, Contains, false, length};
-ghost use Rattle.mp_store.specs.Held.{live_clauses};
+ghost use Rattle.mp_clauses.specs.Slots.{live_clauses};
+ghost use Rattle.mp_store.specs.Held.{IsUntouched};
 ghost use Rattle.mp_store.specs.Fixing.{fixing_of};
 ghost use Rattle.mp_store.specs.Rewriting.{after};
 ghost use Rattle.mp_store.specs.Techniques.{IsRun, IsAnswer};
 ghost use Rattle.t_units.specs.Units.{unit_propagation};
 
 use crate::waiting::UnitQueue;
-use mp_logic::{ListOf, Lit, NoMemory};
-use mp_store::{Ending, Ran, Rewrite, Store, spend};
+use mp_logic::{Clause, ListOf, Lit, NoMemory};
+use mp_store::{ClauseId, Ran, Rewrite, Store};
+use mp_turns::{Items, Turn, Turned, run_turns};
 use std::alloc::Global;
 
 /// Fixes unit clauses, that of lowest id first, until none is left. Each is a turn, and so is finding that none is left:
@@ -21,38 +26,55 @@ use std::alloc::Global;
 /// Each turn that fixes a literal puts one repair last, so `turns` says that there are no more of them than the budget has.
 pub fn units(alloc: Global, store: &mut Store, budget: Option<u64>) -> Result<Ran, NoMemory>
     requires { store.old.refuted ≡ false }
-    ensures run { IsRun unit_propagation store.old store.new }
+    ensures run { IsRun unit_propagation.LeavesAlone store.old store.new }
     ensures answer { IfOk result (λ r. IsAnswer unit_propagation budget store.old store.new r) }
     ensures turns { IfSome budget (λ b. length store.new.repairs ≤ length store.old.repairs + b) }
 {
-    let mut queue = UnitQueue::new(alloc);
-    let mut seen = 0;
-    let mut left = budget;
-    let mut changed = false;
-    'turns: loop {
-        // what holds of each store turns the end of the queue into the end state
+    let mut turn = Propagation {
+        waiting: UnitQueue::new(alloc),
+        seen: 0,
+    };
+    run_turns(alloc, store, &mut turn, budget)
+}
+
+/// The unit clauses of ids below `seen` that wait.
+#[derive(Drop)]
+struct Propagation {
+    waiting: UnitQueue,
+    seen: ClauseId,
+}
+
+impl Turn for Propagation {
+    ghost use Rattle.std.specs.Prelude.{◌≤◌, length};
+    ghost use Rattle.t_units.specs.Units.{propagating};
+    ghost use Rattle.t_units.specs.Waiting.{AreWaiting};
+
+    ghost turning = { propagating };
+
+    ghost fits = { λ t h. AreWaiting h.slots t.seen t.waiting × (t.seen ≤ length h.slots) };
+
+    fn candidates(&self, alloc: Global, _: &Store) -> Result<Items, NoMemory> {
+        let mut made = ListOf::new(alloc);
+        made.push(0)?;
+        Ok(made)
+    }
+
+    fn turn(
+        &mut self,
+        alloc: Global,
+        store: &mut Store,
+        _: u64,
+        again: &mut Items,
+    ) -> Result<Turned, NoMemory> {
+        // what holds of each store makes a change a smaller state
         let _ = store.vars();
-        if !spend(&mut left) {
-            return Ok(Ran {
-                ending: Ending::Spent,
-                changed,
-            });
-        }
-        seen = queue.find(store, seen)?;
-        let Some(lit) = queue.next(store) else {
-            return Ok(Ran {
-                ending: Ending::Finished,
-                changed,
-            });
+        self.seen = self.waiting.find(store, self.seen)?;
+        let Some(lit) = self.waiting.next(store) else {
+            return Ok(Turned::Idle);
         };
+        again.push(0)?;
         fix(alloc, store, lit)?;
-        changed = true;
-        if store.refuted() {
-            return Ok(Ran {
-                ending: Ending::Finished,
-                changed,
-            });
-        }
+        Ok(Turned::Changed)
     }
 }
 
@@ -60,15 +82,14 @@ pub fn units(alloc: Global, store: &mut Store, budget: Option<u64>) -> Result<Ra
 fn fix(alloc: Global, store: &mut Store, lit: Lit) -> Result<(), NoMemory>
     requires unrefuted { store.old.refuted ≡ false }
     requires unit { Contains (live_clauses store.old.slots) (lit ∷ []) }
-    ensures ok { OnOk result (store.new ≡ after (fixing_of (lit ∷ []) store.old) store.old) }
-    ensures err { OnErr result (store.new ≡ record store.old { prepared = store.new.prepared }) }
+    ensures ok { OnOk result (IsUntouched (after (fixing_of (lit ∷ []) store.old) store.old) store.new) }
+    ensures err { OnErr result (IsUntouched store.old store.new) }
 {
     // what holds of each store puts the literal within its variables
     let _ = store.vars();
-    let mut lits = ListOf::new(alloc);
+    let mut lits = Clause::new(alloc);
     lits.push(lit)?;
     let rewrite = Rewrite::fixing(alloc, store, &lits)?;
-    store.prepare(&rewrite)?;
-    store.apply(&rewrite);
+    store.rewrite(rewrite)?;
     Ok(())
 }

@@ -3,7 +3,7 @@ use Rattle.std.proofs.Common.{◌≡◌, ◌∙◌, ℕ, Bool, false, List, [], 
 use Rattle.std.specs.Prelude.{◌==◌, ◌||◌}
 use Rattle.std.proofs.lemmas.List.Elements.{All-head, All-tail}
 use Rattle.mp_logic.specs.Literal.{Literal}
-use Rattle.mp_store.specs.Held.{has_empty}
+use Rattle.mp_clauses.specs.Slots.{has_empty}
 use Rattle.yardstick.specs.Drawn.{IsDrawn}
 
 pub none_empty : (n : ℕ) (cs : List (List Literal)) → All (IsDrawn n) cs → has_empty cs ≡ false

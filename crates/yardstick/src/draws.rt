@@ -2,7 +2,7 @@
 ghost use Rattle.std.specs.Prelude.{◌≡◌, ◌≤◌, ◌<◌, ◌+◌, ◌*◌, ◌/◌, ◌^◌, IfOk};
 ghost use Rattle.yardstick.specs.Drawn.{IsDrawn, variables_for};
 
-use mp_logic::{Clause, ListOf, Lit, NoMemory};
+use mp_logic::{Clause, Lit, NoMemory};
 use std::alloc::Global;
 
 /// Which variables the clauses have, and in which order they are rewritten.
@@ -93,7 +93,7 @@ impl Draws {
         let low = self.lit(first, part);
         let middle = self.lit(first + part, part);
         let high = self.lit(first + 2 * part, part);
-        let mut clause = ListOf::new(alloc);
+        let mut clause = Clause::new(alloc);
         clause.push(low)?;
         clause.push(middle)?;
         clause.push(high)?;

@@ -38,7 +38,7 @@ fn repair_of(alloc: Global, clause: Clause) -> Result<Repair, NoMemory>
     requires { 1 ≤ length clause }
     ensures { (n : ℕ) → IsDrawn n clause → IfOk result (IsProper n) }
 {
-    let mut sets = ListOf::new(alloc);
+    let mut sets = Clause::new(alloc);
     sets.push(clause.items()[0])?;
     Ok(Repair { sets, clause })
 }

@@ -1,6 +1,6 @@
 //! A store under many small rewrites.
 ghost use Rattle.std.specs.Prelude.{◌≡◌, ◌<◌, ◌≤◌, ◌++◌, IfOk, OnOk, All, Some, None, false, true, length, map, slice_set};
-ghost use Rattle.mp_store.specs.Held.{is_live};
+ghost use Rattle.mp_clauses.specs.Slots.{is_live};
 ghost use Rattle.yardstick.specs.Drawn.{IsDrawn, variables_for};
 
 use crate::draws::{Draws, Order, window_of};
@@ -136,7 +136,6 @@ fn change(alloc: Global, store: &mut Store, id: ClauseId, added: Clauses) -> Res
         repairs: ListOf::new(alloc),
         fresh: 0,
     };
-    store.prepare(&rewrite)?;
-    store.apply(&rewrite);
+    store.rewrite(rewrite)?;
     Ok(())
 }

@@ -9,7 +9,8 @@ use Rattle.mp_logic.specs.Normal.{lit_cmp}
 use Rattle.mp_logic.proofs.LiteralOrder.{lit_cmp_total}
 use Rattle.mp_labels.specs.Tables.{HasNumber, by_number}
 use Rattle.mp_labels.specs.declared.clause_rows.ClauseRow.{ClauseRow}
-use Rattle.mp_labels.proofs.Lists.{All-from_map, map_map}
+use Rattle.std.proofs.lemmas.Simd.{map-map}
+use Rattle.mp_labels.proofs.Lists.{All-from_map}
 use Rattle.mp_labels.proofs.unit_form.renumbered.Goals as goal
 
 pub renumbered_clause-requires : goal.renumbered_clause-requires
@@ -28,7 +29,7 @@ returns-clause-moved c =
     let rows = c.in_ok-rows.rows.items in
     let made : c.loop-row.made.items ≡ map renumbered (map clause rows) =
     c.loop-row.invariant
-    ∙ (ap (map (λ r. renumbered (clause r))) (take_all c.loop-row.row-index c.deref-row-items.result.now c.loop-row-test.false ∙ c.deref-row-items.ensures.value) ∙ sym (map_map renumbered clause rows)) in
+    ∙ (ap (map (λ r. renumbered (clause r))) (take_all c.loop-row.row-index c.deref-row-items.result.now c.loop-row-test.false ∙ c.deref-row-items.ensures.value) ∙ sym (map-map renumbered clause rows)) in
     let before = IsPermutation-map renumbered c.args.clauses.now (map clause rows) c.in_ok-rows.ensures.moved in
     let after = subst (λ (cs : List (List Literal)). IsPermutation cs c.sort_unstable_by.new.self.items) made c.sort_unstable_by.ensures.permutation in
     subst (λ (cs : List (List Literal)). IsPermutation (map renumbered c.args.clauses.now) cs) (sym c.from_vec.ensures)

@@ -1,6 +1,6 @@
 use Rattle.std.proofs.Common.{◌≡◌, ◌+◌, ◌++◌, ◌∷◌, drop}
 use Rattle.std.specs.List.{flat_map}
-use Rattle.mp_map.specs.Maps.{literal_word}
+use Rattle.mp_text.specs.Writing.{literal_word}
 use Rattle.mp_map.specs.Solutions.{literals_from}
 use Rattle.mp_map.proofs.answering.write_literals.Given as goal
 

@@ -1,6 +1,7 @@
 use Rattle.std.proofs.Common.{◌≡◌, ◌++◌, take}
 use Rattle.std.specs.List.{flat_map}
-use Rattle.mp_map.specs.Maps.{line_text, repair_words}
+use Rattle.mp_text.specs.Lines.{line_text}
+use Rattle.mp_map.specs.Maps.{repair_words}
 use Rattle.mp_map.proofs.Spellings.{head_text}
 use Rattle.mp_map.proofs.spelling.write_map.Given as goal
 

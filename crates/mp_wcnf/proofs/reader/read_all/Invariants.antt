@@ -1,6 +1,6 @@
 use Rattle.std.proofs.Common.{◌≡◌, ◌≤◌, length, true}
 use Rattle.mp_text.specs.Tokens.{tokens_of}
-use Rattle.mp_wcnf.specs.Refusals.{end_line}
+use Rattle.mp_text.specs.Lines.{end_line}
 use Rattle.mp_wcnf.specs.Reading.{read_on, fresh_reader}
 use Rattle.mp_wcnf.proofs.reader.read_all.Given as goal
 

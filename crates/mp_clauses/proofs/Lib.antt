@@ -1,0 +1,10 @@
+pub mod Steps
+pub mod Laid
+pub mod Packed
+pub mod ArenaPlaces
+pub mod Signed
+pub mod Pricing
+pub mod Numbered
+pub mod Found
+pub mod FirstLists
+pub mod Unlinked

@@ -1,0 +1,9 @@
+pub mod Places
+pub mod Slots
+pub mod Weighing
+pub mod Numbering
+pub mod Occurrences
+pub mod Arena
+pub mod Signatures
+pub mod Tables
+pub mod Buckets

@@ -1,0 +1,13 @@
+pub mod Orders
+pub mod Weights
+pub mod Stepped
+pub mod Sweeps
+pub mod Rounds
+pub mod Passes
+pub mod Keepings
+pub mod Settled
+pub mod Standing
+pub mod LineStates
+pub mod CourseLines
+pub mod Endings
+pub mod CanRun

@@ -1,0 +1,37 @@
+ghost use Rattle.std.specs.Prelude.{◌≡◌, ◌++◌, ◌∷◌, [], true, false, IfOk};
+ghost use Rattle.mp_store.specs.Held.{labelled_of};
+ghost use Rattle.mp_engine.specs.Letters.{is_built};
+ghost use Rattle.mp_engine.specs.Stages.{counts_of};
+ghost use Rattle.mp_engine.specs.Stores.{RunsStage};
+
+use crate::done::{StageLine, StageLines};
+use crate::letters::{Step, run_letter};
+use mp_logic::NoMemory;
+use mp_script::Stage;
+use mp_store::Store;
+use std::alloc::Global;
+
+/// Runs one stage, and puts its line last.
+pub fn run_stage(
+    alloc: Global,
+    store: &mut Store,
+    stage: Stage,
+    lines: &mut StageLines,
+) -> Result<Step, NoMemory>
+    requires unrefuted { store.old.refuted ≡ false }
+    requires built { is_built stage.letter ≡ true }
+    ensures step { IfOk result (λ step. RunsStage stage store.old store.new step.ending step.changed) }
+    ensures line { IfOk result (λ step. lines.new ≡ lines.old ++ record { letter = stage.letter; ending = step.ending; counts = counts_of (labelled_of store.new) } ∷ []) }
+{
+    // what holds of each store says that an empty clause refutes it
+    let _ = store.vars();
+    let step = run_letter(alloc, store, stage)?;
+    let _ = store.vars();
+    let counts = store.counts();
+    lines.push(StageLine {
+        letter: stage.letter,
+        ending: step.ending,
+        counts,
+    })?;
+    Ok(step)
+}

@@ -1,0 +1,204 @@
+-- How the top call ends, from how its inputs were read and how its texts were written.
+use Rattle.std.proofs.Common.{◌≡◌, ◌≢◌, ◌⊎◌, ◌<◌, ◌≤◌, ◌+◌, ◌-◌, ◌^◌, ℕ, List, [], ◌∷◌, ◌++◌, Option, Some, refl, ap, sym, ◌∙◌, subst, arith, inl, inr}
+use Rattle.std.proofs.lemmas.Bool.{cases_lt}
+use Rattle.mp_host.specs.World.{Rose, last_count}
+use Rattle.mp_modes.specs.Commands.{Answers, Bars, PreparesRequest, Request, Preprocess, Reconstruct, Spells, StopsRequest}
+use Rattle.mp_modes.specs.Inputs.{Input, Stops, StopsAt}
+use Rattle.mp_modes.specs.PreprocessMode.{preprocess_mode}
+use Rattle.mp_modes.specs.ReconstructMode.{reconstruct_mode}
+use Rattle.mp_modes.specs.Refusals.{HasFixedLine, faults_of, status_of, text_status}
+use Rattle.mp_modes.specs.Running.{Mode, IsSaid, Says, SaysOrWants, Does, DoesPart, Prepares, StopsReading, IsDone, IsCutShort, IsTurnedAway, Ends, EndsUnread, IsCounted, after_reading}
+use Rattle.mp_modes.specs.Outputs.{steps_of}
+use Rattle.mp_modes.specs.Traces.{Outside, Trace, begun, asking}
+use Rattle.mp_modes.specs.declared.outputs.Outputs.{Outputs}
+use Rattle.mp_modes.specs.declared.status.Outcome.{Outcome}
+use Rattle.mp_modes.specs.declared.status.Status.TheVariants as statuses
+use Rattle.mp_modes.specs.declared.refusal.TextRefusal.{TextRefusal}
+use Rattle.mp_modes.specs.declared.refusal.TextRefusal.TheVariants as texts
+use Rattle.mp_modes.specs.declared.refusal.Refusal.{Refusal}
+use Rattle.mp_modes.specs.declared.refusal.Refusal.TheVariants as refusals
+use Rattle.mp_modes.proofs.Commands.{one_request}
+use Rattle.mp_modes.proofs.Traced.{left-begun}
+
+-- where a run stops, memory may be wanting
+want_at : (Refuses : List ℕ → TextRefusal → Type 0) (content : Option (List ℕ)) (r : Refusal) → StopsAt Refuses content r → StopsAt Refuses content refusals.NoMemory
+want_at Refuses content r h = tt
+
+stops_wanting : (t : Trace) (before : List (List ℕ)) (is : List Input) (r : Refusal) (end : Trace) → Stops t before is r end → Stops t before is refusals.NoMemory end
+stops_wanting t before [] r end h = (refl, h.1)
+stops_wanting t before (i ∷ is) r end h =
+    elim h [
+      | inl at ↦ inl (tt, at.1)
+      | inr later ↦ inr (later.0, later.1, later.2, stops_wanting (asking t i.name) (before ++ later.0 ∷ []) is r end later.3)
+    ]
+
+-- the words are no command
+pub unread : (old new : Outside) (outcome : Outcome) → SaysOrWants refusals.Usage old new outcome → EndsUnread refusals.Usage old new outcome
+unread old new outcome h = elim h [ inl says ↦ says (begun old.world) old (left-begun old) | inr want ↦ absurd (want.0 tt) ]
+
+-- an input stopped the run
+pub turned_away : (mode : Mode) (old mid new : Outside) (refusal : Refusal) (outcome : Outcome) → StopsReading mode old mid refusal → SaysOrWants refusal mid new outcome → Ends mode old new outcome
+turned_away mode old mid new refusal outcome stop h =
+    elim h [
+      | inl says ↦ inr (inr (record { refusal = refusal; end = stop.end; stops = stop.stops; said = says stop.end old stop.left }))
+      | inr want ↦ inr (inr (record {
+        refusal = refusals.NoMemory;
+        end = stop.end;
+        stops = stops_wanting (begun old.world) [] mode.inputs refusal stop.end stop.stops;
+        said = want.1 stop.end old stop.left;
+      }))
+    ]
+
+-- all steps were done
+pub done : (mode : Mode) (old mid new : Outside) (outputs : Outputs) (outcome : Outcome) → Prepares mode old mid outputs → Does (steps_of outputs) mid new
+    → outcome.status ≡ statuses.Ok → outcome.faults_seen ≡ 0 → Ends mode old new outcome
+done mode old mid new outputs outcome p does status seen =
+    inl (record { steps = steps_of outputs; prepared = p.prepared; left = does (after_reading mode old) old p.left; status = status; seen = seen })
+
+-- a step failed
+pub cut_short : (mode : Mode) (old mid new : Outside) (outputs : Outputs) (outcome : Outcome) → Prepares mode old mid outputs → DoesPart (steps_of outputs) mid new
+    → outcome.status ≡ statuses.WriteFault → outcome.faults_seen ≡ 1 → Ends mode old new outcome
+cut_short mode old mid new outputs outcome p does status seen =
+    let part = does (after_reading mode old) old p.left in
+    inr (inl (record { steps = steps_of outputs; prepared = p.prepared; end = part.0; cut = part.1; left = part.2; status = status; seen = seen }))
+
+-- a refusal with the status of a fault is that fault
+reads : (r : Refusal) → status_of r ≡ statuses.ReadFault → r ≡ refusals.ReadFault
+reads refusals.NoMemory q = absurd cc
+reads refusals.Usage q = absurd cc
+reads refusals.ReadFault q = refl
+reads refusals.TooLong q = absurd cc
+reads refusals.Unbuilt q = absurd cc
+reads (refusals.Text (texts.Instance line)) q = absurd cc
+reads (refusals.Text (texts.Limit exceeded)) q = absurd cc
+reads (refusals.Text (texts.Map line)) q = absurd cc
+reads (refusals.Text (texts.Solution line)) q = absurd cc
+reads (refusals.Text (texts.Script place)) q = absurd cc
+
+never_writes : (r : Refusal) → status_of r ≢ statuses.WriteFault
+never_writes refusals.NoMemory q = absurd cc
+never_writes refusals.Usage q = absurd cc
+never_writes refusals.ReadFault q = absurd cc
+never_writes refusals.TooLong q = absurd cc
+never_writes refusals.Unbuilt q = absurd cc
+never_writes (refusals.Text (texts.Instance line)) q = absurd cc
+never_writes (refusals.Text (texts.Limit exceeded)) q = absurd cc
+never_writes (refusals.Text (texts.Map line)) q = absurd cc
+never_writes (refusals.Text (texts.Solution line)) q = absurd cc
+never_writes (refusals.Text (texts.Script place)) q = absurd cc
+
+-- the status of a run that was refused
+said_status : (refusal : Refusal) (old new : Outside) (outcome : Outcome) → SaysOrWants refusal old new outcome → (outcome.status ≡ status_of refusal) ⊎ (outcome.status ≡ statuses.NoMemory)
+said_status refusal old new outcome h =
+    elim h [
+      | inl says ↦ inl (says (begun old.world) old (left-begun old)).status
+      | inr want ↦ inr (want.1 (begun old.world) old (left-begun old)).status
+    ]
+
+-- a count that rose is greater by one, or at its last value
+risen : (before now : ℕ) → Rose before now → now < last_count → before + 1 ≤ now
+risen before now rose below = elim (cases_lt before now) [ inl less ↦ omega (arith, less) | inr not ↦ absurd (let at = rose not in omega (arith, at, below)) ]
+
+-- the faults on the way to a refusal
+on_the_way : (r : Refusal) (before now : ℕ) → (r ≡ refusals.ReadFault → Rose before now) → before ≤ now → now < last_count → before + faults_of r ≤ now
+on_the_way refusals.ReadFault before now rose later below = risen before now (rose refl) below
+on_the_way refusals.NoMemory before now rose later below = omega (arith, later)
+on_the_way refusals.Usage before now rose later below = omega (arith, later)
+on_the_way refusals.TooLong before now rose later below = omega (arith, later)
+on_the_way refusals.Unbuilt before now rose later below = omega (arith, later)
+on_the_way (refusals.Text x) before now rose later below = omega (arith, later)
+
+-- a refused run is counted
+pub refusal_counted : (old mid new : Outside) (refusal : Refusal) (outcome : Outcome) → (refusal ≡ refusals.ReadFault → Rose old.read_faults mid.read_faults) → old.read_faults ≤ mid.read_faults → mid.write_faults ≡ old.write_faults
+    → SaysOrWants refusal mid new outcome → (new.write_faults < last_count → mid.write_faults + outcome.faults_seen ≤ new.write_faults + faults_of refusal) → new.read_faults ≡ mid.read_faults
+    → IsCounted old new outcome
+refusal_counted old mid new refusal outcome rose later writes h counted same = record {
+  rose = λ below below'.
+      let way = on_the_way refusal old.read_faults mid.read_faults rose later (omega (arith, below, same)) in
+      let more = counted below' in
+      omega (arith, way, more, same, writes);
+  reading = λ q.
+      elim (said_status refusal mid new outcome h) [
+        | inl is ↦ let P : ℕ → Type 0 = λ n. Rose old.read_faults n in subst P (sym same) (rose (reads refusal (sym is ∙ q)))
+        | inr is ↦ let clash : statuses.NoMemory ≡ statuses.ReadFault = sym is ∙ q in absurd cc
+      ];
+  writing = λ q.
+      elim (said_status refusal mid new outcome h) [
+        | inl is ↦ absurd (never_writes refusal (sym is ∙ q))
+        | inr is ↦ let clash : statuses.NoMemory ≡ statuses.WriteFault = sym is ∙ q in absurd cc
+      ];
+}
+
+-- a run that did all its steps is counted
+pub done_counted : (old mid new : Outside) (outcome : Outcome) → old.read_faults ≤ mid.read_faults → mid.write_faults ≡ old.write_faults → mid.write_faults ≤ new.write_faults → new.read_faults ≡ mid.read_faults
+    → outcome.status ≡ statuses.Ok → outcome.faults_seen ≡ 0 → IsCounted old new outcome
+done_counted old mid new outcome later writes more same status seen = record {
+  rose = λ below below'. omega (arith, later, writes, more, same, seen);
+  reading = λ q. let clash : statuses.Ok ≡ statuses.ReadFault = sym status ∙ q in absurd cc;
+  writing = λ q. let clash : statuses.Ok ≡ statuses.WriteFault = sym status ∙ q in absurd cc;
+}
+
+-- and one of which a step failed
+pub cut_counted : (old mid new : Outside) (outcome : Outcome) → old.read_faults ≤ mid.read_faults → mid.write_faults ≡ old.write_faults → Rose mid.write_faults new.write_faults → new.read_faults ≡ mid.read_faults
+    → outcome.status ≡ statuses.WriteFault → outcome.faults_seen ≡ 1 → IsCounted old new outcome
+cut_counted old mid new outcome later writes rose same status seen = record {
+  rose = λ below below'. let up = risen mid.write_faults new.write_faults rose below' in omega (arith, later, writes, up, same, seen);
+  reading = λ q. let clash : statuses.WriteFault ≡ statuses.ReadFault = sym status ∙ q in absurd cc;
+  writing = λ q. let P : ℕ → Type 0 = λ n. Rose n new.write_faults in subst P writes rose;
+}
+
+-- the words are no command, and the run is counted
+pub unread_counted : (old new : Outside) (outcome : Outcome) → SaysOrWants refusals.Usage old new outcome → (new.write_faults < last_count → old.write_faults + outcome.faults_seen ≤ new.write_faults + faults_of refusals.Usage)
+    → new.read_faults ≡ old.read_faults → IsCounted old new outcome
+unread_counted old new outcome h counted same = refusal_counted old old new refusals.Usage outcome (λ q. absurd cc) (omega arith) refl h counted same
+
+-- a request was stopped
+barred : (techniques : List ℕ) (old mid new : Outside) (refusal : Refusal) (outcome : Outcome) → Bars techniques refusal → mid ≡ old → SaysOrWants refusal mid new outcome
+    → (r : Refusal) × Bars techniques r × EndsUnread r old new outcome
+barred techniques old mid new refusal outcome bars same h =
+    let P : Outside → Type 0 = λ o. SaysOrWants refusal o new outcome in
+    elim (subst P same h) [
+      | inl says ↦ (refusal, bars, says (begun old.world) old (left-begun old))
+      | inr want ↦ (refusals.NoMemory, tt, want.1 (begun old.world) old (left-begun old))
+    ]
+
+stopped_request : (request : Request) (old mid new : Outside) (refusal : Refusal) (outcome : Outcome) → StopsRequest request old mid refusal → SaysOrWants refusal mid new outcome → Answers request old new outcome
+stopped_request (Preprocess file techniques map form) old mid new refusal outcome stop h =
+    elim stop [
+      | inl bars ↦ inl (barred techniques old mid new refusal outcome bars.0 bars.1 h)
+      | inr s ↦ inr (record { script = s.script; spelled = s.spelled; built = s.built; holds = turned_away (preprocess_mode file s.script map form) old mid new refusal outcome s.holds h })
+    ]
+stopped_request (Reconstruct file map form) old mid new refusal outcome stop h = turned_away (reconstruct_mode file map form) old mid new refusal outcome stop h
+
+-- or it did all its steps
+done_request : (request : Request) (old mid new : Outside) (outputs : Outputs) (outcome : Outcome) → PreparesRequest request old mid outputs → Does (steps_of outputs) mid new
+    → outcome.status ≡ statuses.Ok → outcome.faults_seen ≡ 0 → Answers request old new outcome
+done_request (Preprocess file techniques map form) old mid new outputs outcome p does status seen =
+    inr (record { script = p.script; spelled = p.spelled; built = p.built; holds = done (preprocess_mode file p.script map form) old mid new outputs outcome p.holds does status seen })
+done_request (Reconstruct file map form) old mid new outputs outcome p does status seen = done (reconstruct_mode file map form) old mid new outputs outcome p does status seen
+
+-- or a step failed
+cut_request : (request : Request) (old mid new : Outside) (outputs : Outputs) (outcome : Outcome) → PreparesRequest request old mid outputs → DoesPart (steps_of outputs) mid new
+    → outcome.status ≡ statuses.WriteFault → outcome.faults_seen ≡ 1 → Answers request old new outcome
+cut_request (Preprocess file techniques map form) old mid new outputs outcome p does status seen =
+    inr (record { script = p.script; spelled = p.spelled; built = p.built; holds = cut_short (preprocess_mode file p.script map form) old mid new outputs outcome p.holds does status seen })
+cut_request (Reconstruct file map form) old mid new outputs outcome p does status seen = cut_short (reconstruct_mode file map form) old mid new outputs outcome p does status seen
+
+-- the request that was read is the one that the words spell
+pub turned_away_by : (words : List (List ℕ)) (request read : Request) (old mid new : Outside) (refusal : Refusal) (outcome : Outcome) → Spells words request → Spells words read
+    → StopsRequest read old mid refusal → SaysOrWants refusal mid new outcome → Answers request old new outcome
+turned_away_by words request read old mid new refusal outcome h k stop says =
+    let P : Request → Type 0 = λ r. StopsRequest r old mid refusal in
+    stopped_request request old mid new refusal outcome (subst P (one_request words read request k h) stop) says
+
+pub done_by : (words : List (List ℕ)) (request read : Request) (old mid new : Outside) (outputs : Outputs) (outcome : Outcome) → Spells words request → Spells words read
+    → PreparesRequest read old mid outputs → Does (steps_of outputs) mid new → outcome.status ≡ statuses.Ok → outcome.faults_seen ≡ 0 → Answers request old new outcome
+done_by words request read old mid new outputs outcome h k p does status seen =
+    let P : Request → Type 0 = λ r. PreparesRequest r old mid outputs in
+    done_request request old mid new outputs outcome (subst P (one_request words read request k h) p) does status seen
+
+pub cut_short_by : (words : List (List ℕ)) (request read : Request) (old mid new : Outside) (outputs : Outputs) (outcome : Outcome) → Spells words request → Spells words read
+    → PreparesRequest read old mid outputs → DoesPart (steps_of outputs) mid new → outcome.status ≡ statuses.WriteFault → outcome.faults_seen ≡ 1 → Answers request old new outcome
+cut_short_by words request read old mid new outputs outcome h k p does status seen =
+    let P : Request → Type 0 = λ r. PreparesRequest r old mid outputs in
+    cut_request request old mid new outputs outcome (subst P (one_request words read request k h) p) does status seen

@@ -1,0 +1,10 @@
+pub mod AnswersBack
+pub mod Barred
+pub mod Commands
+pub mod Counted
+pub mod Ended
+pub mod Presented
+pub mod Readings
+pub mod Refused
+pub mod Tight
+pub mod Traced

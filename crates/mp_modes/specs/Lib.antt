@@ -1,0 +1,13 @@
+pub mod Commands
+pub mod Inputs
+pub mod Limits
+pub mod Outputs
+pub mod PreprocessMode
+pub mod Preprocessing
+pub mod Presenting
+pub mod ReconstructMode
+pub mod Reconstructing
+pub mod Refusals
+pub mod Running
+pub mod Traces
+pub mod Words

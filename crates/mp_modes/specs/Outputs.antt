@@ -1,0 +1,15 @@
+-- The steps that write the texts of a run.
+use Rattle.std.specs.Prelude.{List, [], ◌∷◌, ◌++◌, Option, Some, None}
+use Rattle.mp_host.specs.declared.host.Port.TheVariants as ports
+use Rattle.mp_modes.specs.Traces.{Step, Creates, Sends}
+use Rattle.mp_modes.specs.declared.outputs.MapText.{MapText}
+use Rattle.mp_modes.specs.declared.outputs.Outputs.{Outputs}
+
+-- the map's file is created and gets its text
+abbrev pub map_steps : Option MapText → List Step
+map_steps None = []
+map_steps (Some map) = Creates map.name.now ∷ Sends ports.Map map.text ∷ []
+
+-- the map, where there is one, then the output, then the log
+abbrev pub steps_of : Outputs → List Step
+steps_of outputs = map_steps outputs.map ++ Sends ports.Out outputs.out ∷ Sends ports.Log outputs.log ∷ []

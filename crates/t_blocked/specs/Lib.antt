@@ -1,0 +1,2 @@
+pub mod BlockedClauses
+pub mod Dropping

@@ -1,0 +1,3 @@
+pub mod Eliminating
+pub mod Resolving
+pub mod Resolved

@@ -1,0 +1,88 @@
+ghost use Rattle.std.specs.Prelude.{◌≡◌, ◌≤◌, ◌<◌, ◌+◌, ◌*◌, ◌↔◌, IfOk, MatchOption, IsTrue, All, cond, length, true};
+ghost use Rattle.mp_logic.specs.Literal.{IsUpTo};
+ghost use Rattle.mp_clauses.specs.Slots.{is_live, live_clauses};
+ghost use Rattle.t_elim.specs.Eliminating.{positive, negative_of, having, PaysOff};
+ghost use Rattle.t_elim.specs.Resolving.{resolvents_with, resolvents_of};
+
+use mp_logic::{Lit, NoMemory};
+use mp_store::{ClauseId, LiteralSet, Store};
+
+/// Whether elimination of the variable pays off: there are at most 256 pairs of clauses, and no more resolvents without
+/// tautologies than clauses.
+pub fn pays_off(store: &Store, hand: &mut LiteralSet, variable: u32) -> Result<bool, NoMemory>
+    requires { IsUpTo store.now.vars (positive variable) }
+    ensures { IfOk result (λ b. IsTrue b ↔ PaysOff variable (having (positive variable) (live_clauses store.now.slots)) (having (negative_of variable) (live_clauses store.now.slots))) }
+{
+    let positive = Lit::new(variable, false);
+    let negative = Lit::new(variable, true);
+    let worth = are_worth_it(
+        store,
+        hand,
+        variable,
+        store.occurrences(positive),
+        store.occurrences(negative),
+    )?;
+    Ok(worth)
+}
+
+/// The same of two lists of clauses. The count stops at the first resolvent that is one too many, and builds none; where
+/// there are no more pairs than clauses, none is counted.
+fn are_worth_it(
+    store: &Store,
+    hand: &mut LiteralSet,
+    variable: u32,
+    positive: &[ClauseId],
+    negative: &[ClauseId],
+) -> Result<bool, NoMemory>
+    requires positive { All (λ id. is_live store.now.slots id ≡ true) positive.now }
+    requires negative { All (λ id. is_live store.now.slots id ≡ true) negative.now }
+    ensures { IfOk result (λ b. IsTrue b ↔ (length positive.now * length negative.now ≤ 256) × (length (resolvents_of variable store.now.slots positive.now negative.now) ≤ length positive.now + length negative.now)) }
+{
+    let Some(pairs) = few_pairs(positive.len(), negative.len()) else {
+        return Ok(false);
+    };
+    let mut left = positive.len() as u128 + negative.len() as u128;
+    if pairs as u128 <= left {
+        return Ok(true);
+    }
+    for id in positive {
+        hand.hold(store.clause(*id))?;
+        if !fit(store, hand, variable, negative, &mut left) {
+            return Ok(false);
+        }
+    }
+    Ok(true)
+}
+
+/// How many pairs two lists have, where these are at most 256.
+fn few_pairs(left: usize, right: usize) -> Option<usize>
+    ensures { MatchOption result (256 < left * right) (λ pairs. (pairs ≡ left * right) × (pairs ≤ 256)) }
+{
+    let pairs = left.checked_mul(right)?;
+    if 256 < pairs {
+        return None;
+    }
+    Some(pairs)
+}
+
+/// Takes the resolvents of the clause in hand off the number that is left, and answers whether they fitted.
+fn fit(
+    store: &Store,
+    hand: &LiteralSet,
+    variable: u32,
+    negative: &[ClauseId],
+    left: &mut u128,
+) -> bool
+    requires { All (λ id. is_live store.now.slots id ≡ true) negative.now }
+    ensures { cond result (left.new + length (resolvents_with variable hand.now store.now.slots negative.now) ≡ left.old) (left.old < length (resolvents_with variable hand.now store.now.slots negative.now)) }
+{
+    for id in negative {
+        if !hand.clashes_beside(variable, store.clause(*id)) {
+            if *left == 0 {
+                return false;
+            }
+            *left -= 1;
+        }
+    }
+    true
+}

@@ -1,0 +1,15 @@
+//! Bounded variable elimination on a clause store.
+//!
+//! `eliminate` resolves variables without cost away where this takes no more clauses than it makes. It promises `run` and
+//! `answer`, the clauses of every technique (`specs/Techniques` of `mp_store`), with its own part in `specs/Eliminating`;
+//! what a turn does is in `specs/Resolved`. It stands on `mp_logic`, `mp_store` and `mp_turns`.
+#![tactic(auto)]
+
+mod candidates;
+mod counting;
+mod elimination;
+mod neighbours;
+mod repairing;
+mod resolving;
+
+pub use elimination::eliminate;

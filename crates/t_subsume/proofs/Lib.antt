@@ -1,0 +1,5 @@
+pub mod Embedding
+pub mod Subsuming
+pub mod Flipping
+pub mod Strengthened
+pub mod Parts

@@ -1,0 +1,4 @@
+pub mod Containment
+pub mod Subsumption
+pub mod Strengthening
+pub mod Shortening
