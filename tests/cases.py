@@ -1,8 +1,7 @@
 #!/usr/bin/env python3
-"""Turns the tables of cases into what the programs `cases` and `library_cases` read and what is wanted of them.
+"""Turns the tables of cases into what the program `cases` reads and what is wanted of it.
 
-    tests/cases.py            writes crates/cases/stdin and stdout from tests/cases/*.jsonl,
-                              and crates/library_cases/stdin and stdout from tests/library_cases/*.jsonl
+    tests/cases.py            writes crates/cases/stdin and stdout from tests/cases/*.jsonl
     tests/cases.py --check    writes nothing, and fails where one of these files is not current
 
 A line of tests/cases is a case, in JSON: its name and the runs that it needs, each over a desk of its own.
@@ -18,7 +17,8 @@ them). Two keys write many runs at once, from a run that ends with status 0:
     "each_call": 7      the run again for every host call, that one failing, where a call moves 7 bytes
     "each_front": "M"   the run again for every proper front of the map file of this name, each refused at its last line
 
-A line of tests/library_cases has a name, the lines that `library_cases` reads and those that it must print:
+A line of tests/library_cases, for a second program that the gate does not run yet, has a name, the lines that it reads and those
+that it must print:
 
     {"case": "a budget of one turn", "lines": ["text h 1 0\\\\nh -1 2 0\\\\n", "technique u 1"], "prints": [".."]}
 """

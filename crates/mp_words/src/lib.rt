@@ -1,0 +1,19 @@
+//! The words of a command line, and the command that they are.
+//!
+//! It promises that `read_command` answers the command of the words, defaults filled in, or that they are none
+//! (`IsCommandLine` of `specs/Commands`, over `IsLine` of `specs/CommandLines`). The words are checked here, and then `clap`
+//! reads them as one simple command. The table of modes and their options is `modes` in the code and `specs/Modes` among
+//! the definitions: a further mode is a line of each, and a function that reads its values in `command`; a further option is
+//! one line more of `parsed`. It stands on `mp_logic`, and on `mp_wcnf` and `mp_map` for the forms of the outputs.
+#![tactic(auto)]
+
+mod command;
+mod laws;
+mod lines;
+mod modes;
+mod parsed;
+mod words;
+
+pub use command::{Command, CommandError, Preprocess, Reconstruct, read_command};
+pub use laws::commands_are_one;
+pub use words::Words;
