@@ -1,0 +1,13 @@
+pub mod Analysed
+pub mod Answered
+pub mod Chosen
+pub mod Explained
+pub mod Given
+pub mod Lessons
+pub mod Searched
+pub mod Sounded
+pub mod Started
+pub mod Tables
+pub mod Taken
+pub mod Watched
+pub mod Minimised
