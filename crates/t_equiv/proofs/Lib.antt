@@ -1,0 +1,12 @@
+pub mod Bridge
+pub mod Adding
+pub mod Imaged
+pub mod Reached
+pub mod Classes
+pub mod Heads
+pub mod Pooled
+pub mod PooledStores
+pub mod ImageClauses
+pub mod Kept
+pub mod Shrunk
+pub mod Rounds

@@ -1,0 +1,10 @@
+pub mod Labels
+pub mod LabelPlaces
+pub mod Payers
+pub mod Nearby
+pub mod Lowered
+pub mod Rounds
+pub mod LabelClauses
+pub mod Greedy
+pub mod Choices
+pub mod GroupRounds

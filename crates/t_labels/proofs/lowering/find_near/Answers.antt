@@ -1,0 +1,14 @@
+use Rattle.std.proofs.lemmas.List.Filters.{dedup_is}
+use Rattle.std.proofs.lemmas.List.Kept.{Contains-dedup_nat, Contains-from_dedup}
+use Rattle.std.proofs.lemmas.List.Sorted.{Contains-permutation, IsPermutation-sym}
+use Rattle.std.proofs.lemmas.Map.Keys.{IsStrictlyIncreasing-dedup}
+use Rattle.t_labels.proofs.Nearby.{near-is}
+use Rattle.t_labels.proofs.lowering.find_near.Goals as goal
+
+pub returns : goal.returns
+returns c =
+    let is = dedup_is _ _ _ c.dedup.ensures.filtered in
+    let moved = c.sort_unstable.ensures.permutation in
+    near-is c.args.gone.now c.args.cut.now c.args.store.now _ _ c.in_ok-gather_near.ensures (rw is (IsStrictlyIncreasing-dedup _ c.sort_unstable.ensures.sorted))
+    (λ k h. rw is (Contains-dedup_nat _ k (Contains-permutation _ _ k moved h)))
+    (λ k h. Contains-permutation _ _ k (IsPermutation-sym _ _ moved) (Contains-from_dedup _ _ k (rw is at h)))

@@ -1,0 +1,16 @@
+pub mod Labels
+pub mod LabelPlaces
+pub mod Lowest
+pub mod Beside
+pub mod PairTurns
+pub mod Joining
+pub mod Splits
+pub mod Zeroed
+pub mod CoreStay
+pub mod CoreStepping
+pub mod PairIds
+pub mod CoreTurns
+pub mod Partners
+pub mod MatchSteps
+pub mod MatchTurns
+pub mod FreeLabels

@@ -1,0 +1,9 @@
+pub mod LabelPairs
+pub mod Labels
+pub mod Lowest
+pub mod Joins
+pub mod Cores
+pub mod Pairs
+pub mod Matching
+pub mod Pairing
+pub mod FreePartners
