@@ -1,7 +1,8 @@
 #!/usr/bin/env python3
-"""Turns the tables of cases into what the program `cases` reads and what is wanted of it.
+"""Turns the tables of cases into what the programs `cases` and `library_cases` read and what is wanted of them.
 
-    tests/cases.py            writes crates/cases/stdin and stdout from tests/cases/*.jsonl
+    tests/cases.py            writes stdin and stdout of crates/cases from tests/cases/*.jsonl, and those of
+                              crates/library_cases from tests/library_cases/*.jsonl
     tests/cases.py --check    writes nothing, and fails where one of these files is not current
 
 A line of tests/cases is a case, in JSON: its name and the runs that it needs, each over a desk of its own.
@@ -17,10 +18,11 @@ them). Two keys write many runs at once, from a run that ends with status 0:
     "each_call": 7      the run again for every host call, that one failing, where a call moves 7 bytes
     "each_front": "M"   the run again for every proper front of the map file of this name, each refused at its last line
 
-A line of tests/library_cases, for a second program that the gate does not run yet, has a name, the lines that it reads and those
-that it must print:
+A line of tests/library_cases has a name, the lines that the program reads, each a call of the libraries, and those that it must
+print. The table's name says which calls there are (`run_table` in crates/library_cases/src/main.rt). Each case begins anew, and
+no line has an `@`, which begins the next table.
 
-    {"case": "a budget of one turn", "lines": ["text h 1 0\\\\nh -1 2 0\\\\n", "technique u 1"], "prints": [".."]}
+    {"case": "a budget of one turn", "lines": ["text h 1 0\\\\nh -1 2 0\\\\n", "store", "technique u 1"], "prints": [".."]}
 """
 import json
 import sys
@@ -73,14 +75,14 @@ def wanted_of(run):
 
 def option(run, name):
     """The values that the words of a run give under a name, one or none."""
-    return [word.removeprefix(f"--{name}=") for word in run["words"][2:] if word.startswith(f"--{name}=")]
+    return [word.removeprefix(f"--{name}=") for word in run["words"] if word.startswith(f"--{name}=")]
 
 
 def calls_of(run, chunk):
     """The host calls of a run that ends well: what each does, and how many bytes it moves. An input is opened and read up to
-    a read of no bytes; the map is created and written, then the output, then the log."""
+    a read of no bytes; the map is created and written, where it has a name, then the output, then the log."""
     pieces = lambda port: [(port, min(chunk, len(run[port]) - at)) for at in range(0, len(run.get(port, "")), chunk)]
-    mode, file = run["words"][:2]
+    mode, file = [word for word in run["words"] if not word.startswith("-")]
     inputs = [file] if mode == "preprocess" else option(run, "original") + option(run, "mapfile") + [file]
     calls = []
     for name in inputs:
@@ -144,7 +146,10 @@ def library_calls():
     """The input of `library_cases` and what it must print."""
     given, wanted = [], []
     for table in sorted((TOP / "tests/library_cases").glob("*.jsonl")):
+        given.append(f"@{table.stem}")
         for case in cases_of(table):
+            if "@" in "".join(case["lines"]) + case["case"]:
+                sys.exit(f"{table}: an @ in the case {case['case']}")
             given += [f"case {case['case']}"] + case["lines"]
             wanted += [f"case {case['case']}"] + case["prints"]
     return given, wanted
@@ -153,7 +158,7 @@ def library_calls():
 def main():
     check = sys.argv[1:] == ["--check"]
     stale = []
-    for crate, (given, wanted) in (("cases", whole_runs()),):
+    for crate, (given, wanted) in (("cases", whole_runs()), ("library_cases", library_calls())):
         for name, lines in (("stdin", given), ("stdout", wanted)):
             path = TOP / "crates" / crate / name
             path.parent.mkdir(exist_ok=True)

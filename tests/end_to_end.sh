@@ -132,7 +132,11 @@ writes "an answer without values" "s UNSATISFIABLE" reconstruct none --mapfile=c
 
 # --- refusals ---
 refuses "no words" 2 "maxpre: usage: maxpre MODE OPERAND [--NAME=VALUE]"
-refuses "no map's name" 2 "maxpre: usage: maxpre MODE OPERAND [--NAME=VALUE]" preprocess chain.wcnf --techniques=u
+refuses "no map's name for reconstruct" 2 "maxpre: usage: maxpre MODE OPERAND [--NAME=VALUE]" reconstruct found
+logs "no map" "c offset 3" "c stage u finished 0 0 0
+c single" --techniques=u preprocess chain.wcnf
+refuses "a word that isn't UTF-8" 2 "" preprocess $'chain\xff.wcnf' --mapfile=new.map
+refuses "an option that isn't UTF-8" 2 "" preprocess chain.wcnf --mapfile=new.map $'--form=\xff'
 refuses "an unknown form" 2 "maxpre: usage: maxpre MODE OPERAND [--NAME=VALUE]" preprocess chain.wcnf --techniques=u --mapfile=new.map --form=x
 refuses "an option of another mode" 2 "maxpre: usage: maxpre MODE OPERAND [--NAME=VALUE]" preprocess chain.wcnf --techniques=u --mapfile=new.map --values=bits
 refuses "a script that is none" 10 "maxpre: script: byte 2" preprocess missing.wcnf '--techniques=[u' --mapfile=new.map
@@ -208,7 +212,7 @@ for example in "schedule 10" "release 7" "adder 3"; do
     left_out "$name: its cost (no python3)"
   fi
   if command -v clasp >/dev/null && command -v python3 >/dev/null; then
-    for script in u '[bu]#[buvsr]'; do
+    for script in u '[bu]#[buvsrgc]'; do
       "$maxpre" preprocess "$wcnf" "--techniques=$script" --mapfile="$name.map" --form=p >"$name.smaller" 2>err
       clasp -q1 "$name.smaller" >solved
       run reconstruct solved --mapfile="$name.map"

@@ -1,6 +1,6 @@
 #!/usr/bin/env python3
 """Prints what each crate costs the gate, as the table of docs/PROOFS.md: lines of code with clauses, of definitions and of
-proofs, the number of edits that must fail, and the processor minutes of its check from nothing, of the check of its tests and
+proofs (without blanks), the number of edits that must fail, and the processor minutes of its check from nothing, of the check of its tests and
 of its edits.
 
     tests/prices.py [CRATE..]      all crates of crates.txt, or these
@@ -35,7 +35,8 @@ def crates_of(text):
 
 
 def lines(folder, end):
-    return sum(len(path.read_text().splitlines()) for path in folder.rglob(f"*{end}")) if folder.exists() else 0
+    """Lines that are not blank, of the files below a folder with this end of their names."""
+    return sum(bool(line.strip()) for path in folder.rglob(f"*{end}") for line in path.read_text().splitlines())
 
 
 def minutes(command, cwd):
@@ -58,6 +59,7 @@ def price(copy, name):
     crate = copy / "crates" / name
     sources = "".join(path.read_text() for path in (crate / "src").rglob("*.rt"))
     edits = len(list((crate / "must-fail").glob("*.edit")))
+    counts = [lines(crate / "src", ".rt"), lines(crate / "specs", ".antt"), lines(crate / "proofs", ".antt"), edits]
     root = next(path for path in (crate / "src/lib.rt", crate / "src/main.rt") if path.exists())
     root.write_text(root.read_text() + f"// priced {random.random()}\n")
     tests = "-"
@@ -67,7 +69,6 @@ def price(copy, name):
     from_nothing(crate)
     check = minutes(["rt", "check", "--jobs", "1"], crate)
     refused = minutes(["rt", "must-fail", name, "--anew"], copy) if edits else "-"
-    counts = [lines(crate / "src", ".rt"), lines(crate / "specs", ".antt"), lines(crate / "proofs", ".antt"), edits]
     return f"| {name} | {' | '.join(map(str, counts))} | {check} | {tests} | {refused} |"
 
 

@@ -3,8 +3,8 @@
 
     tests/twin.py write              writes tests/library_cases/drawn.jsonl: for each technique what it does with drawn stores,
                                      told by digests (tests/cases.py then brings them to the program)
-    tests/twin.py show LETTER PLACE  prints what is digested for one drawn store; `show-drawn LETTER PLACE` has library_cases
-                                     print the same
+    tests/twin.py show LETTER PLACE  prints what is digested for one drawn store; library_cases prints the same for the two
+                                     lines `@drawn` and `show-drawn LETTER PLACE`
     tests/twin.py count              prints how many of the drawn stores each technique changes, spends its budget on or refutes
 """
 import json
@@ -221,10 +221,20 @@ def plain_costs(store):
     return [lit for lit in store.costs() if store.is_plain(lit)]
 
 
-def near_costs(store, lits):
-    """Cost literals that share a clause with one of the literals, or are one."""
-    near = {lit for _, c in store.live() if set(c) & set(lits) for lit in c} | set(lits)
-    return sorted(near & set(store.weights), key=order)
+def fix_false(store, l):
+    """Fixes a cost literal false. Answers the literals of the clauses that went, those of the clauses that were shortened, and
+    those that share a clause with a cost literal that became plain."""
+    went = {lit for id in store.having(-l) for lit in store.slots[id]}
+    shortened = {lit for id in store.having(l) for lit in store.slots[id]}
+    plain = set(plain_costs(store))
+    store.fix(-l)
+    freed = set(plain_costs(store)) - plain
+    beside = {lit for _, c in store.live() if freed & set(c) for lit in c}
+    return went, shortened, beside
+
+
+def costs_among(store, lits):
+    return sorted(lits & set(store.weights), key=order)
 
 
 def drop_label(store, l):
@@ -235,13 +245,8 @@ def drop_label(store, l):
     covers = [b for b in plain_costs(store) if b != l and store.weights[b] <= store.weights[l] and all(b in c for c in clauses)]
     if clauses and not covers:
         return None
-    return fix_false(store, l)
-
-
-def fix_false(store, l):
-    before = store.costs()
-    store.fix(-l)
-    return [lit for lit in before if lit in store.weights]
+    went, _, beside = fix_false(store, l)
+    return costs_among(store, went | beside)
 
 
 def greedy_cover_fails(store, l):
@@ -258,9 +263,11 @@ def greedy_cover_fails(store, l):
 
 
 def drop_group_label(store, l):
+    """A cost literal is fixed false whose greedy cover does not fail."""
     if l not in store.weights or greedy_cover_fails(store, l):
         return None
-    return fix_false(store, l)
+    went, shortened, beside = fix_false(store, l)
+    return costs_among(store, went | shortened | beside)
 
 
 def matches(store, l, m):
@@ -449,7 +456,7 @@ TECHNIQUES = {
 }
 
 # the techniques that the program has an arm for
-WRITTEN = "usrbv"
+WRITTEN = "usrbvelgmc"
 
 
 # ---- drawn stores ----

@@ -2,9 +2,9 @@
 
 use case_text::{Desks, Trouble};
 use mp_logic::NoMemory;
+use mp_modes::Words;
 use mp_modes::status::Outcome;
 use mp_modes::top::maxpre;
-use mp_modes::words::Words;
 use mp_text::TextBuf;
 use std::alloc::Global;
 

@@ -9,8 +9,7 @@ ghost use Rattle.mp_modes.specs.Refusals as refusals;
 
 use mp_host::RealHost;
 use mp_modes::status::Status;
-use mp_modes::top;
-use mp_modes::words::Words;
+use mp_modes::{Words, top};
 use std::env;
 use std::io::ErrorKind;
 use std::process::ExitCode;

@@ -1,11 +1,10 @@
 -- Scripts that can run.
-use Rattle.std.proofs.Common.{◌≡◌, ◌≢◌, ℕ, zero, suc, ◌<◌, ◌≤◌, List, [], ◌∷◌, refl, arith}
-use Rattle.std.specs.Prelude.{Contains, All}
+use Rattle.std.proofs.Common.{suc, List, [], ◌∷◌, refl, arith}
 use Rattle.std.proofs.lemmas.List.Elements.{All-head, All-tail, All-nil, All-cons}
 use Rattle.mp_script.specs.declared.scripts.Rounds.{Rounds}
 use Rattle.mp_script.specs.declared.scripts.Rounds.TheVariants.{Once, Settle, At}
 use Rattle.mp_script.specs.declared.scripts.Group.{Group}
-use Rattle.mp_script.specs.Grammar.{AreRoundsInRange, IsGroupInRange, IsInRange, ScriptsAreInRange}
+use Rattle.mp_script.specs.Grammar.{AreRoundsInRange, IsInRange, ScriptsAreInRange}
 use Rattle.mp_engine.specs.Laws.{BuiltScriptsCanRun}
 use Rattle.mp_engine.specs.Stores.{AreBuilt, HasRounds, IsBuilt, CanRun}
 

@@ -1,11 +1,10 @@
 -- How log texts end.
-use Rattle.std.proofs.Common.{◌≡◌, ℕ, List, [], ◌∷◌, ◌++◌, get_or, reverse, refl, sym, ◌∙◌, ap, arith}
+use Rattle.std.proofs.Common.{◌≡◌, ℕ, List, ◌++◌, get_or, reverse, refl, sym, ◌∙◌, ap, arith}
 use Rattle.std.specs.List.{flat_map}
 use Rattle.std.proofs.lemmas.List.{reverse-append}
-use Rattle.mp_engine.specs.declared.done.StageLine.{StageLine}
 use Rattle.mp_engine.specs.declared.done.Close.{Close}
 use Rattle.mp_engine.specs.declared.done.Close.TheVariants.{Settled, Unsettled, Single, Refuted}
-use Rattle.mp_engine.specs.LogText.{line_text, close_text, log_of, LogTellsClose}
+use Rattle.mp_engine.specs.LogText.{line_text, close_text, LogTellsClose}
 
 -- the byte at a place from the end
 from_end : (k : ℕ) (xs ys : List ℕ) (close told : Close) → xs ++ close_text close ≡ ys ++ close_text told

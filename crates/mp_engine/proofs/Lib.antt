@@ -11,3 +11,9 @@ pub mod LineStates
 pub mod CourseLines
 pub mod Endings
 pub mod CanRun
+pub mod Alike
+pub mod Reordered
+pub mod AlikeSteps
+pub mod AlikeLabels
+pub mod AlikeGroups
+pub mod Moved

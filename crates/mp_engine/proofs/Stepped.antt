@@ -1,20 +1,18 @@
 -- What a technique answered, as a stage.
-use Rattle.std.proofs.Common.{◌≡◌, ℕ, List, ◌++◌, Bool, true, false, refl, sym, ◌∙◌, ap, subst, inl, inr, ◌⊎◌}
+use Rattle.std.proofs.Common.{◌≡◌, ℕ, Bool, true, false, refl, sym, ◌∙◌, ap, subst, inl, inr}
 use Rattle.std.specs.Prelude.{Option}
 use Rattle.mp_logic.specs.Keeping.{State}
-use Rattle.mp_logic.specs.declared.instances.Repair.{Repair}
 use Rattle.mp_store.specs.Held.{Held, labelled_of}
 use Rattle.mp_clauses.specs.Slots.{has_empty}
-use Rattle.mp_store.specs.Measures.{IsSmaller}
 use Rattle.mp_store.specs.Soundness.{IsStore}
-use Rattle.mp_store.specs.Techniques.{Technique, IsStep, IsRun, IsChange, IsEnd}
+use Rattle.mp_store.specs.Techniques.{Technique, IsRun, IsChange, IsEnd}
 use Rattle.mp_store.specs.declared.ran.Ending.{Ending}
 use Rattle.mp_store.specs.declared.ran.Ending.TheVariants as ends
 use Rattle.mp_script.specs.declared.scripts.Stage.{Stage}
 use Rattle.mp_engine.specs.declared.done.StageEnding.{StageEnding}
 use Rattle.mp_engine.specs.Bounds.{IsCounted}
 use Rattle.mp_engine.specs.Letters.{Kind, turns, asks, hardens, unbuilt, kind_of, leaves_alone}
-use Rattle.mp_engine.specs.Stages.{IsRefuted, IsNoLarger, IsTurnEnding, IsAskEnding, IsHardenEnding, IsEnding}
+use Rattle.mp_engine.specs.Stages.{IsRefuted, IsNoLarger, IsTurnEnding, IsEnding}
 use Rattle.mp_engine.specs.Stores.{ending_of, HasStepped, Moves, RunsStage}
 
 pub refuted_of : (h : Held) → IsStore h → h.refuted ≡ true → IsRefuted (labelled_of h)

@@ -10,6 +10,11 @@ use Rattle.t_subsume.specs.Subsumption.{subsumption}
 use Rattle.t_subsume.specs.Strengthening.{self_subsumption}
 use Rattle.t_blocked.specs.BlockedClauses.{blocked_clauses}
 use Rattle.t_elim.specs.Eliminating.{variable_elimination}
+use Rattle.t_equiv.specs.Equivalences.{equivalent_literals}
+use Rattle.t_labels.specs.Covers.{subsumed_labels}
+use Rattle.t_labels.specs.Groups.{group_subsumed_labels}
+use Rattle.t_matching.specs.Cores.{binary_core_removal}
+use Rattle.t_matching.specs.Matching.{label_matching}
 
 -- the own part of a technique that asks a solver: what it leaves nothing of, and what it leaves alone
 pub record Asking : Type 1 where
@@ -32,11 +37,11 @@ kind_of B = turns blocked_clauses
 kind_of S = turns subsumption
 kind_of R = turns self_subsumption
 kind_of V = turns variable_elimination
-kind_of E = unbuilt
-kind_of L = unbuilt
-kind_of Gr = unbuilt
-kind_of M = unbuilt
-kind_of C = unbuilt
+kind_of E = turns equivalent_literals
+kind_of L = turns subsumed_labels
+kind_of Gr = turns group_subsumed_labels
+kind_of M = turns label_matching
+kind_of C = turns binary_core_removal
 kind_of Amo = unbuilt
 kind_of T = unbuilt
 kind_of K = unbuilt

@@ -5,3 +5,4 @@ pub mod Stores
 pub mod Bounds
 pub mod Laws
 pub mod LogText
+pub mod Alike

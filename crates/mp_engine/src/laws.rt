@@ -1,4 +1,5 @@
 //! Laws of runs, each the contract of a function that does nothing.
+ghost use Rattle.mp_engine.specs.Alike.{CountsMove, EndStatesMove};
 ghost use Rattle.mp_engine.specs.LogText.{LogTellsClose};
 ghost use Rattle.mp_engine.specs.Laws.{BoundsAreReached, BuiltScriptsCanRun, LastLetterHasEndState, LastLineIsLast, LinesHaveStages, NoGroupIsSingle, RefutedIsExact, RunsAreCourses, RunsKeep, SettledIsStanding, SettledLoopsHaveEndStates, SingleIsExact, UnsettledAfterRounds, UnsettledIsStanding};
 
@@ -80,3 +81,14 @@ pub fn built_scripts_can_run()
 {
     scripts_are_in_range()
 }
+
+/// What a letter leaves nothing of in a state it leaves nothing of in each state that differs in the numbers of its variables
+/// and the order of its clauses and costs alone, as a written form does.
+pub fn end_states_move()
+    ensures { EndStatesMove }
+{}
+
+/// States that differ in these alone have as many clauses, literals and costs.
+pub fn counts_move()
+    ensures { CountsMove }
+{}

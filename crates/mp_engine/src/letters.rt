@@ -9,6 +9,9 @@ use mp_store::{Ending, Ran, Store};
 use std::alloc::Global;
 use t_blocked::blocked;
 use t_elim::eliminate;
+use t_equiv::equivalences;
+use t_labels::{covered, group_covered};
+use t_matching::{binary_cores, matched};
 use t_subsume::{strengthen, subsume};
 use t_units::units;
 
@@ -47,6 +50,11 @@ pub fn run_letter(alloc: Global, store: &mut Store, stage: Stage) -> Result<Step
         Letter::S => Ok(turned(subsume(alloc, store, stage.budget)?)),
         Letter::R => Ok(turned(strengthen(alloc, store, stage.budget)?)),
         Letter::V => Ok(turned(eliminate(alloc, store, stage.budget)?)),
+        Letter::E => Ok(turned(equivalences(alloc, store, stage.budget)?)),
+        Letter::L => Ok(turned(covered(alloc, store, stage.budget)?)),
+        Letter::Gr => Ok(turned(group_covered(alloc, store, stage.budget)?)),
+        Letter::M => Ok(turned(matched(alloc, store, stage.budget)?)),
+        Letter::C => Ok(turned(binary_cores(alloc, store, stage.budget)?)),
         _ => unreachable!(),
     }
 }
@@ -57,6 +65,15 @@ pub fn is_built(letter: Letter) -> bool
 {
     matches!(
         letter,
-        Letter::U | Letter::B | Letter::S | Letter::R | Letter::V
+        Letter::U
+            | Letter::B
+            | Letter::S
+            | Letter::R
+            | Letter::V
+            | Letter::E
+            | Letter::L
+            | Letter::Gr
+            | Letter::M
+            | Letter::C
     )
 }

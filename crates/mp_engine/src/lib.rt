@@ -21,10 +21,10 @@ mod stages;
 pub use built::can_run;
 pub use done::{Close, Done, StageEnding, StageLine, StageLines};
 pub use laws::{
-    bounds_are_reached, built_scripts_can_run, last_letter_has_end_state, last_line_is_last,
-    lines_have_stages, log_tells_close, no_group_is_single, refuted_is_exact, runs_are_courses,
-    runs_keep, settled_is_standing, settled_loops_have_end_states, single_is_exact,
-    unsettled_after_rounds, unsettled_is_standing,
+    bounds_are_reached, built_scripts_can_run, counts_move, end_states_move,
+    last_letter_has_end_state, last_line_is_last, lines_have_stages, log_tells_close,
+    no_group_is_single, refuted_is_exact, runs_are_courses, runs_keep, settled_is_standing,
+    settled_loops_have_end_states, single_is_exact, unsettled_after_rounds, unsettled_is_standing,
 };
 pub use log::log_text;
 pub use running::{run, run_from_labelled};

@@ -18,7 +18,7 @@ use Rattle.mp_labels.specs.UnitForm.{names_of, number_of, renamed, soft_of, IsUn
 use Rattle.mp_labels.proofs.Lists.{Contains-from_map, sum_by-map}
 use Rattle.mp_labels.proofs.Numbers.{rises_parts, name_bounds, number_bounds, name_at_number}
 use Rattle.mp_labels.proofs.Presented.{all_named, formula_units, hard_origin, names_rising}
-use Rattle.mp_modes.specs.Preprocessing.{CountsAs, unit_soft}
+use Rattle.mp_modes.specs.EndStates.{CountsAs, unit_soft}
 
 number_first : (m v : ℕ) (ms : List ℕ) → m ≡ v → number_of (m ∷ ms) v ≡ 1
 number_first m v ms e = cond-true (nat_eq m v) 1 (1 + number_of ms v) (eq-eqb m v e)
@@ -31,7 +31,7 @@ behind : (m v : ℕ) (ms : List ℕ) → Contains (m ∷ ms) v → (m ≡ v → 
 behind m v ms i n = elim (Contains-cases m ms v i) [ inl e ↦ absurd (n (sym e)) | inr j ↦ j ]
 
 -- numbers rise with the names
-numbers_rise : (names : List ℕ) (least n v w : ℕ) → IsTrue (names_rise least n names) → Contains names v → Contains names w → v < w → number_of names v < number_of names w
+pub numbers_rise : (names : List ℕ) (least n v w : ℕ) → IsTrue (names_rise least n names) → Contains names v → Contains names w → v < w → number_of names v < number_of names w
 numbers_rise [] least n v w h i j l = absurd (Contains-none v i)
 numbers_rise (m ∷ ms) least n v w h i j l =
     let r = rises_parts least n m ms h in

@@ -2,7 +2,11 @@
 use Rattle.std.proofs.Common.{◌≡◌, ◌≢◌, ◌⊎◌, ◌<◌, ◌≤◌, ◌+◌, ◌-◌, ◌^◌, ℕ, List, [], ◌∷◌, ◌++◌, Option, Some, refl, ap, sym, ◌∙◌, subst, arith, inl, inr}
 use Rattle.std.proofs.lemmas.Bool.{cases_lt}
 use Rattle.mp_host.specs.World.{Rose, last_count}
-use Rattle.mp_modes.specs.Commands.{Answers, Bars, PreparesRequest, Request, Preprocess, Reconstruct, Spells, StopsRequest}
+use Rattle.mp_words.specs.Commands.{IsFault, Request, Preprocess, Reconstruct, Spells}
+use Rattle.mp_words.specs.declared.command.CommandError.{CommandError}
+use Rattle.mp_words.specs.declared.command.CommandError.TheVariants as faults
+use Rattle.mp_words.proofs.OneCommand.{commands_one}
+use Rattle.mp_modes.specs.Commands.{Answers, BarsRequest, EndsUnspelled, OfMode, PreparesRequest, StopsRequest, refused_words}
 use Rattle.mp_modes.specs.Inputs.{Input, Stops, StopsAt}
 use Rattle.mp_modes.specs.PreprocessMode.{preprocess_mode}
 use Rattle.mp_modes.specs.ReconstructMode.{reconstruct_mode}
@@ -17,7 +21,6 @@ use Rattle.mp_modes.specs.declared.refusal.TextRefusal.{TextRefusal}
 use Rattle.mp_modes.specs.declared.refusal.TextRefusal.TheVariants as texts
 use Rattle.mp_modes.specs.declared.refusal.Refusal.{Refusal}
 use Rattle.mp_modes.specs.declared.refusal.Refusal.TheVariants as refusals
-use Rattle.mp_modes.proofs.Commands.{one_request}
 use Rattle.mp_modes.proofs.Traced.{left-begun}
 
 -- where a run stops, memory may be wanting
@@ -32,9 +35,27 @@ stops_wanting t before (i ∷ is) r end h =
       | inr later ↦ inr (later.0, later.1, later.2, stops_wanting (asking t i.name) (before ++ later.0 ∷ []) is r end later.3)
     ]
 
--- the words are no command
-pub unread : (old new : Outside) (outcome : Outcome) → SaysOrWants refusals.Usage old new outcome → EndsUnread refusals.Usage old new outcome
-unread old new outcome h = elim h [ inl says ↦ says (begun old.world) old (left-begun old) | inr want ↦ absurd (want.0 tt) ]
+-- a refusal whose line takes no memory is said
+unread_said : (refusal : Refusal) (old new : Outside) (outcome : Outcome) → HasFixedLine refusal → SaysOrWants refusal old new outcome → EndsUnread refusal old new outcome
+unread_said refusal old new outcome fixed h = elim h [ inl says ↦ says (begun old.world) old (left-begun old) | inr want ↦ absurd (want.0 fixed) ]
+
+-- the words were not read
+pub unread : (error : CommandError) (refusal : Refusal) (old new : Outside) (outcome : Outcome) → refusal ≡ refused_words error → SaysOrWants refusal old new outcome → EndsUnspelled old new outcome
+unread faults.Usage refusal old new outcome is h = let P : Refusal → Type 0 = λ r. SaysOrWants r old new outcome in inl (unread_said refusals.Usage old new outcome tt (subst P is h))
+unread faults.NoMemory refusal old new outcome is h = let P : Refusal → Type 0 = λ r. SaysOrWants r old new outcome in inr (unread_said refusals.NoMemory old new outcome tt (subst P is h))
+
+-- memory may be wanting for each request
+wanting : (request : Request) → BarsRequest request refusals.NoMemory
+wanting (Preprocess file techniques map form) = tt
+wanting (Reconstruct file map form) = refl
+
+-- where they spell a request, that was for want of memory
+pub unread_request : (words : List (List ℕ)) (error : CommandError) (refusal : Refusal) (request : Request) (old new : Outside) (outcome : Outcome) → refusal ≡ refused_words error → IsFault words error → Spells words request
+    → SaysOrWants refusal old new outcome → Answers request old new outcome
+unread_request words faults.Usage refusal request old new outcome is fault spelled h = absurd (fault (request, spelled))
+unread_request words faults.NoMemory refusal request old new outcome is fault spelled h =
+    let P : Refusal → Type 0 = λ r. SaysOrWants r old new outcome in
+    inl (refusals.NoMemory, wanting request, unread_said refusals.NoMemory old new outcome tt (subst P is h))
 
 -- an input stopped the run
 pub turned_away : (mode : Mode) (old mid new : Outside) (refusal : Refusal) (outcome : Outcome) → StopsReading mode old mid refusal → SaysOrWants refusal mid new outcome → Ends mode old new outcome
@@ -147,58 +168,64 @@ cut_counted old mid new outcome later writes rose same status seen = record {
   writing = λ q. let P : ℕ → Type 0 = λ n. Rose n new.write_faults in subst P writes rose;
 }
 
--- the words are no command, and the run is counted
-pub unread_counted : (old new : Outside) (outcome : Outcome) → SaysOrWants refusals.Usage old new outcome → (new.write_faults < last_count → old.write_faults + outcome.faults_seen ≤ new.write_faults + faults_of refusals.Usage)
-    → new.read_faults ≡ old.read_faults → IsCounted old new outcome
-unread_counted old new outcome h counted same = refusal_counted old old new refusals.Usage outcome (λ q. absurd cc) (omega arith) refl h counted same
+never_reads : (error : CommandError) → refused_words error ≡ refusals.ReadFault → ⊥
+never_reads faults.Usage q = absurd cc
+never_reads faults.NoMemory q = absurd cc
+
+-- the words were not read, and the run is counted
+pub unread_counted : (error : CommandError) (refusal : Refusal) (old new : Outside) (outcome : Outcome) → refusal ≡ refused_words error → SaysOrWants refusal old new outcome
+    → (new.write_faults < last_count → old.write_faults + outcome.faults_seen ≤ new.write_faults + faults_of refusal) → new.read_faults ≡ old.read_faults → IsCounted old new outcome
+unread_counted error refusal old new outcome is h counted same = refusal_counted old old new refusal outcome (λ q. absurd (never_reads error (sym is ∙ q))) (omega arith) refl h counted same
+
+-- what holds of the mode of a request
+for_mode : (request : Request) (P Q : Mode → Type 0) → ((mode : Mode) → P mode → Q mode) → OfMode request P → OfMode request Q
+for_mode (Preprocess file techniques map form) P Q f h = record { script = h.script; spelled = h.spelled; built = h.built; holds = f (preprocess_mode file h.script map form) h.holds }
+for_mode (Reconstruct file map form) P Q f h = f (reconstruct_mode file map form) h
 
 -- a request was stopped
-barred : (techniques : List ℕ) (old mid new : Outside) (refusal : Refusal) (outcome : Outcome) → Bars techniques refusal → mid ≡ old → SaysOrWants refusal mid new outcome
-    → (r : Refusal) × Bars techniques r × EndsUnread r old new outcome
-barred techniques old mid new refusal outcome bars same h =
+barred : (request : Request) (old mid new : Outside) (refusal : Refusal) (outcome : Outcome) → BarsRequest request refusal → mid ≡ old → SaysOrWants refusal mid new outcome
+    → (r : Refusal) × BarsRequest request r × EndsUnread r old new outcome
+barred request old mid new refusal outcome bars same h =
     let P : Outside → Type 0 = λ o. SaysOrWants refusal o new outcome in
     elim (subst P same h) [
       | inl says ↦ (refusal, bars, says (begun old.world) old (left-begun old))
-      | inr want ↦ (refusals.NoMemory, tt, want.1 (begun old.world) old (left-begun old))
+      | inr want ↦ (refusals.NoMemory, wanting request, want.1 (begun old.world) old (left-begun old))
     ]
 
 stopped_request : (request : Request) (old mid new : Outside) (refusal : Refusal) (outcome : Outcome) → StopsRequest request old mid refusal → SaysOrWants refusal mid new outcome → Answers request old new outcome
-stopped_request (Preprocess file techniques map form) old mid new refusal outcome stop h =
+stopped_request request old mid new refusal outcome stop h =
     elim stop [
-      | inl bars ↦ inl (barred techniques old mid new refusal outcome bars.0 bars.1 h)
-      | inr s ↦ inr (record { script = s.script; spelled = s.spelled; built = s.built; holds = turned_away (preprocess_mode file s.script map form) old mid new refusal outcome s.holds h })
+      | inl bars ↦ inl (barred request old mid new refusal outcome bars.0 bars.1 h)
+      | inr s ↦ inr (for_mode request (λ mode. StopsReading mode old mid refusal) (λ mode. Ends mode old new outcome) (λ mode stops. turned_away mode old mid new refusal outcome stops h) s)
     ]
-stopped_request (Reconstruct file map form) old mid new refusal outcome stop h = turned_away (reconstruct_mode file map form) old mid new refusal outcome stop h
 
 -- or it did all its steps
 done_request : (request : Request) (old mid new : Outside) (outputs : Outputs) (outcome : Outcome) → PreparesRequest request old mid outputs → Does (steps_of outputs) mid new
     → outcome.status ≡ statuses.Ok → outcome.faults_seen ≡ 0 → Answers request old new outcome
-done_request (Preprocess file techniques map form) old mid new outputs outcome p does status seen =
-    inr (record { script = p.script; spelled = p.spelled; built = p.built; holds = done (preprocess_mode file p.script map form) old mid new outputs outcome p.holds does status seen })
-done_request (Reconstruct file map form) old mid new outputs outcome p does status seen = done (reconstruct_mode file map form) old mid new outputs outcome p does status seen
+done_request request old mid new outputs outcome p does status seen =
+    inr (for_mode request (λ mode. Prepares mode old mid outputs) (λ mode. Ends mode old new outcome) (λ mode prepares. done mode old mid new outputs outcome prepares does status seen) p)
 
 -- or a step failed
 cut_request : (request : Request) (old mid new : Outside) (outputs : Outputs) (outcome : Outcome) → PreparesRequest request old mid outputs → DoesPart (steps_of outputs) mid new
     → outcome.status ≡ statuses.WriteFault → outcome.faults_seen ≡ 1 → Answers request old new outcome
-cut_request (Preprocess file techniques map form) old mid new outputs outcome p does status seen =
-    inr (record { script = p.script; spelled = p.spelled; built = p.built; holds = cut_short (preprocess_mode file p.script map form) old mid new outputs outcome p.holds does status seen })
-cut_request (Reconstruct file map form) old mid new outputs outcome p does status seen = cut_short (reconstruct_mode file map form) old mid new outputs outcome p does status seen
+cut_request request old mid new outputs outcome p does status seen =
+    inr (for_mode request (λ mode. Prepares mode old mid outputs) (λ mode. Ends mode old new outcome) (λ mode prepares. cut_short mode old mid new outputs outcome prepares does status seen) p)
 
 -- the request that was read is the one that the words spell
 pub turned_away_by : (words : List (List ℕ)) (request read : Request) (old mid new : Outside) (refusal : Refusal) (outcome : Outcome) → Spells words request → Spells words read
     → StopsRequest read old mid refusal → SaysOrWants refusal mid new outcome → Answers request old new outcome
 turned_away_by words request read old mid new refusal outcome h k stop says =
     let P : Request → Type 0 = λ r. StopsRequest r old mid refusal in
-    stopped_request request old mid new refusal outcome (subst P (one_request words read request k h) stop) says
+    stopped_request request old mid new refusal outcome (subst P (commands_one words read request k h) stop) says
 
 pub done_by : (words : List (List ℕ)) (request read : Request) (old mid new : Outside) (outputs : Outputs) (outcome : Outcome) → Spells words request → Spells words read
     → PreparesRequest read old mid outputs → Does (steps_of outputs) mid new → outcome.status ≡ statuses.Ok → outcome.faults_seen ≡ 0 → Answers request old new outcome
 done_by words request read old mid new outputs outcome h k p does status seen =
     let P : Request → Type 0 = λ r. PreparesRequest r old mid outputs in
-    done_request request old mid new outputs outcome (subst P (one_request words read request k h) p) does status seen
+    done_request request old mid new outputs outcome (subst P (commands_one words read request k h) p) does status seen
 
 pub cut_short_by : (words : List (List ℕ)) (request read : Request) (old mid new : Outside) (outputs : Outputs) (outcome : Outcome) → Spells words request → Spells words read
     → PreparesRequest read old mid outputs → DoesPart (steps_of outputs) mid new → outcome.status ≡ statuses.WriteFault → outcome.faults_seen ≡ 1 → Answers request old new outcome
 cut_short_by words request read old mid new outputs outcome h k p does status seen =
     let P : Request → Type 0 = λ r. PreparesRequest r old mid outputs in
-    cut_request request old mid new outputs outcome (subst P (one_request words read request k h) p) does status seen
+    cut_request request old mid new outputs outcome (subst P (commands_one words read request k h) p) does status seen

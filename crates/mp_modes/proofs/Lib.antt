@@ -1,10 +1,11 @@
 pub mod AnswersBack
 pub mod Barred
-pub mod Commands
 pub mod Counted
 pub mod Ended
+pub mod OptimumKept
 pub mod Presented
 pub mod Readings
 pub mod Refused
 pub mod Tight
+pub mod Told
 pub mod Traced

@@ -11,7 +11,6 @@ use Rattle.mp_logic.specs.Optimum.{HasHardModel}
 use Rattle.mp_logic.specs.Keeping.{State, IsModel, total_of}
 use Rattle.mp_logic.specs.Carrying.{WrittenForm, ReconstructionMap, Presents, Carries, map_of}
 use Rattle.mp_logic.specs.Labelled.{IsLabelled, IsProper, IsWrittenForm, names_rise}
-use Rattle.mp_logic.specs.EndStates.{NoUnits}
 use Rattle.mp_logic.specs.declared.instances.Repair.{Repair}
 use Rattle.mp_logic.proofs.Carried.{keeping_carries, refutation_carries}
 use Rattle.mp_logic.proofs.Members.{Contains-none, Contains-first, Contains-later, Contains-cases, satisfied}
@@ -19,10 +18,10 @@ use Rattle.mp_labels.specs.LabelView.{positive}
 use Rattle.mp_labels.specs.UnitForm.{IsPlainForm, Occurs, refuted_form}
 use Rattle.mp_map.specs.Maps.{IsMap, reconstruction_of}
 use Rattle.mp_map.specs.declared.maps.MapFile.{MapFile}
-use Rattle.mp_modes.specs.Preprocessing.{IsRefutedInstance}
 use Rattle.mp_modes.specs.Presenting.{PresentsRun}
 use Rattle.mp_modes.proofs.Counted.{form_counts, state_of}
 use Rattle.mp_modes.proofs.Tight.{tight}
+use Rattle.mp_modes.proofs.Told.{form_alike}
 
 -- the test for an empty clause finds one exactly where there is one
 pub empty-found : (cs : List (List Literal)) → list_any (λ c. nat_eq (length c) 0) cs ≡ true → Contains cs []
@@ -88,7 +87,6 @@ pub record Ends (original : ℕ) (s : State) (repairs : List Repair) (w : Writte
   pub total : w.offset + weights_of w.«instance».soft ≤ total_of s
   pub inner_from : s.vars ≤ w.inner
   pub inner_to : w.inner ≤ max 1 s.vars
-  pub no_units : NoUnits s.hard → NoUnits w.«instance».hard
   pub all_occur : (v : ℕ) → 1 ≤ v → v ≤ w.«instance».vars → Occurs w.«instance» v
   pub formula : IsFormula w.«instance».vars w.«instance».hard w.«instance».soft
 
@@ -121,7 +119,7 @@ presents-unit original s repairs w e few none =
           ∙ ap (λ (n : ℕ). record { original = n; inner = w.inner; offset = w.offset; names = w.names; repairs = repairs }) same in
           let P : ReconstructionMap → Type 0 = λ m. Carries f w.«instance» m in
           subst P whole (keeping_carries f view s w repairs ok v k e.presents);
-      propagated = λ h. inr (state_of s w u, form_counts s w e.labelled u, e.no_units h);
+      alike = λ h. (state_of s w u, form_counts s w e.labelled u, form_alike s w e.labelled u);
       tight = tight w.«instance» e.formula e.all_occur;
       below = omega (arith, e.total, e.labelled.below);
     }
@@ -138,7 +136,7 @@ presents-refuted original s repairs w e empty =
       original_vars = refl;
       written_vars = refl;
       carries = λ f view ok same v k. refutation_carries f w.«instance» view s repairs (reconstruction_of (file_of original w [])) v k (no_model s empty) none;
-      propagated = λ p. let Q : WrittenForm → Type 0 = λ x. IsRefutedInstance x.«instance» in inl (subst Q (sym is) (record { vars = refl; hard = refl; soft = refl }));
+      alike = λ h. absurd (h empty);
       tight = tight w.«instance» e.formula e.all_occur;
       below = omega (arith, e.total, e.labelled.below);
     }

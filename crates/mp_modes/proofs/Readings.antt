@@ -1,14 +1,15 @@
 -- How modes read their inputs, from what reading one file says.
-use Rattle.std.proofs.Common.{◌≡◌, ◌≤◌, ◌<◌, ℕ, List, [], ◌∷◌, Option, Some, None, IfSome, length, refl, ap, sym, ◌∙◌, subst, arith, inl, inr}
+use Rattle.std.proofs.Common.{◌≡◌, ◌≤◌, ◌<◌, ℕ, List, [], ◌∷◌, ◌++◌, Option, Some, None, IfSome, length, refl, ap, sym, ◌∙◌, subst, arith, inl, inr}
 use Rattle.std.proofs.lemmas.Option.{IfSome_then}
 use Rattle.mp_host.specs.World.{World, Asked, SameButInput}
+use Rattle.mp_host.specs.declared.host.Port.TheVariants as ports
 use Rattle.mp_logic.specs.Formula.{Formula}
 use Rattle.mp_wcnf.proofs.Public.{one_meaning}
 use Rattle.mp_wcnf.specs.Refusals.{HasOneMeaning}
 use Rattle.mp_wcnf.specs.declared.errors.ReadError.TheVariants as errors
 use Rattle.mp_wcnf.specs.declared.writer.Form.{Form}
 use Rattle.mp_script.specs.declared.scripts.Group.{Group}
-use Rattle.mp_map.specs.Maps.{IsMap}
+use Rattle.mp_map.specs.Maps.{IsMap, map_text}
 use Rattle.mp_map.specs.Solutions.{Reports, solution_fault}
 use Rattle.mp_map.specs.declared.maps.MapFile.{MapFile}
 use Rattle.mp_map.specs.declared.solutions.Solution.{Solution}
@@ -16,14 +17,13 @@ use Rattle.mp_map.specs.declared.solutions.Values.{Values}
 use Rattle.mp_map.proofs.WholeTexts.{one_spelling}
 use Rattle.mp_modes.specs.Inputs.{IsFine, IsReadAs, IsTextOf, Stops, StopsAt}
 use Rattle.mp_modes.specs.Limits.{longest, program_limits}
-use Rattle.mp_modes.specs.Outputs.{steps_of}
-use Rattle.mp_modes.specs.PreprocessMode.{instance_input, preprocess_mode}
+use Rattle.mp_modes.specs.Outputs.{map_steps, steps_of}
+use Rattle.mp_modes.specs.PreprocessMode.{instance_input, preprocess_mode, steps_of_map}
 use Rattle.mp_modes.specs.Preprocessing.{Preprocesses, IsAccepted, IsInstanceFault, IsWantOr, inner_vars}
 use Rattle.mp_modes.specs.ReconstructMode.{IsMapFault, IsSolutionFault, IsSolutionFaultBehind, map_input, solution_input, reconstruct_mode}
 use Rattle.mp_modes.specs.Reconstructing.{IsMapText, Reconstructs, reconstructed_text}
 use Rattle.mp_modes.specs.Running.{Prepares, StopsReading}
-use Rattle.mp_modes.specs.Traces.{Outside, begun, asking, IsLeft}
-use Rattle.mp_modes.specs.declared.outputs.MapText.{MapText}
+use Rattle.mp_modes.specs.Traces.{Outside, Step, Sends, begun, asking, IsLeft}
 use Rattle.mp_modes.specs.declared.outputs.Outputs.{Outputs}
 use Rattle.mp_modes.specs.declared.refusal.Exceeded.{Exceeded}
 use Rattle.mp_modes.specs.declared.refusal.Exceeded.TheVariants as limits
@@ -67,7 +67,7 @@ accepted-fine text f a (texts.Solution line) h = absurd h
 accepted-fine text f a (texts.Script place) h = absurd h
 
 -- `preprocess` could not read its file
-pub preprocess_unread : (file : List ℕ) (script : List Group) (map : List ℕ) (form : Form) (old new : Outside) (e : Refusal)
+pub preprocess_unread : (file : List ℕ) (script : List Group) (map : Option (List ℕ)) (form : Form) (old new : Outside) (e : Refusal)
     → StopsAt (λ _ _. ⊥) (old.world.file file) e → SameButInput old.world new.world → Asked old.asked new.asked (file ∷ []) → StopsReading (preprocess_mode file script map form) old new e
 preprocess_unread file script map form old new e cause frame names = record {
   end = asking (begun old.world) file;
@@ -76,7 +76,7 @@ preprocess_unread file script map form old new e cause frame names = record {
 }
 
 -- its text is refused
-pub preprocess_refused : (file : List ℕ) (script : List Group) (map : List ℕ) (form : Form) (old new : Outside) (e : Refusal) (text : List ℕ)
+pub preprocess_refused : (file : List ℕ) (script : List Group) (map : Option (List ℕ)) (form : Form) (old new : Outside) (e : Refusal) (text : List ℕ)
     → IsTextOf old.world file text → length text ≤ longest → IsWantOr (IsInstanceFault text) e → SameButInput old.world new.world → Asked old.asked new.asked (file ∷ [])
     → StopsReading (preprocess_mode file script map form) old new e
 preprocess_refused file script map form old new e text told fits cause frame names = record {
@@ -86,14 +86,14 @@ preprocess_refused file script map form old new e text told fits cause frame nam
 }
 
 -- its texts are built
-pub preprocess_built : (file : List ℕ) (script : List Group) (name : List ℕ) (form : Form) (old new : Outside) (text : List ℕ) (map : MapText) (outputs : Outputs)
-    → IsTextOf old.world file text → length text ≤ longest → map.name.now ≡ name → outputs.map ≡ Some map → Preprocesses script form text map.text outputs.out outputs.log
+pub preprocess_built : (file : List ℕ) (script : List Group) (name : Option (List ℕ)) (form : Form) (old new : Outside) (text : List ℕ) (way : MapFile) (outputs : Outputs)
+    → IsTextOf old.world file text → length text ≤ longest → map_steps outputs.map ≡ steps_of_map name (map_text way) → Preprocesses script form text (map_text way) outputs.out outputs.log
     → SameButInput old.world new.world → Asked old.asked new.asked (file ∷ []) → Prepares (preprocess_mode file script name form) old new outputs
-preprocess_built file script name form old new text map outputs told fits named mapped right frame names = record {
+preprocess_built file script name form old new text way outputs told fits mapped right frame names = record {
   prepared = record {
     texts = text ∷ [];
     read = (told, record { fits = fits; unrefused = accepted-fine text right.original right.accepted }, refl);
-    right = (map.text, outputs.out, outputs.log, right, rw (mapped, named) refl);
+    right = (map_text way, outputs.out, outputs.log, right, ap (λ (steps : List Step). steps ++ Sends ports.Out outputs.out ∷ Sends ports.Log outputs.log ∷ []) mapped);
   };
   left = left-asked (begun old.world) old old new file (left-begun old) frame names;
 }

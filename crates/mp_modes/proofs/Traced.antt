@@ -1,5 +1,5 @@
 -- What a run did, step by step.
-use Rattle.std.proofs.Common.{◌≡◌, ◌≢◌, ◌⊎◌, ◌<◌, ◌≤◌, ◌+◌, ℕ, Bool, true, false, cond, List, [], ◌∷◌, ◌++◌, Option, Some, None, length, take, refl, ap, sym, ◌∙◌, subst, inl, inr, arith, append_assoc}
+use Rattle.std.proofs.Common.{◌≡◌, ◌≢◌, ◌⊎◌, ◌<◌, ◌≤◌, ◌+◌, ℕ, Bool, true, false, cond, List, [], ◌∷◌, ◌++◌, Option, Some, None, length, take, string_bytes, refl, ap, sym, ◌∙◌, subst, inl, inr, arith, append_assoc}
 use Rattle.std.specs.Prelude.{nat_lt}
 use Rattle.std.proofs.lemmas.Bool.{lt-ltb, le-ltb}
 use Rattle.std.proofs.lemmas.List.{take_all, append-nil}
@@ -88,27 +88,27 @@ abbrev seen : World → Option (List (List ℕ)) → Outside
 seen w a = record { world = w; asked = a; read_faults = 0; write_faults = 0 }
 
 -- the whole map was written
-pub map_written : (given : Option MapText) (map : MapText) (old new : Outside) (w : World) (a : Option (List (List ℕ))) → given ≡ Some map → w ≡ mapped old.world → Asked old.asked a (map.name.now ∷ [])
+pub map_written : (given : Option MapText) (map : MapText) (old new : Outside) (w : World) (a : Option (List (List ℕ))) → given ≡ Some map → w ≡ mapped old.world → Asked old.asked a ((string_bytes map.name) ∷ [])
     → new.world ≡ sent w ports.Map map.text → new.asked ≡ a → Does (map_steps given) old new
 map_written given map old new w a is created named out same = λ t first h.
     let P : Option MapText → Type 0 = λ m. IsLeft (after_steps t (map_steps m)) first new in
-    subst P (sym is) (left-sent (stepped t (Creates map.name.now)) first (seen w a) new ports.Map map.text (left-created t first old (seen w a) map.name.now h created named) out same)
+    subst P (sym is) (left-sent (stepped t (Creates (string_bytes map.name))) first (seen w a) new ports.Map map.text (left-created t first old (seen w a) (string_bytes map.name) h created named) out same)
 
 -- no map was created
-pub map_missed : (given : Option MapText) (map : MapText) (old new : Outside) → given ≡ Some map → new.world ≡ old.world → Asked old.asked new.asked (map.name.now ∷ []) → DoesPart (map_steps given) old new
+pub map_missed : (given : Option MapText) (map : MapText) (old new : Outside) → given ≡ Some map → new.world ≡ old.world → Asked old.asked new.asked ((string_bytes map.name) ∷ []) → DoesPart (map_steps given) old new
 map_missed given map old new is same named = λ t first h.
     let P : Option MapText → Type 0 = λ m. (end : Trace) × AreCutOff t (map_steps m) end × IsLeft end first new in
     let frame : SameButInput old.world new.world = let P : World → Type 0 = λ v. SameButInput old.world v in subst P (sym same) refl in
-    subst P (sym is) (asking t map.name.now, inl refl, left-asked t first old new map.name.now h frame named)
+    subst P (sym is) (asking t (string_bytes map.name), inl refl, left-asked t first old new (string_bytes map.name) h frame named)
 
 -- a front of the map was written
-pub map_cut_off : (given : Option MapText) (map : MapText) (old new : Outside) (w : World) (a : Option (List (List ℕ))) (n : ℕ) → given ≡ Some map → w ≡ mapped old.world → Asked old.asked a (map.name.now ∷ []) → n < length map.text
+pub map_cut_off : (given : Option MapText) (map : MapText) (old new : Outside) (w : World) (a : Option (List (List ℕ))) (n : ℕ) → given ≡ Some map → w ≡ mapped old.world → Asked old.asked a ((string_bytes map.name) ∷ []) → n < length map.text
     → new.world ≡ sent w ports.Map (take n map.text) → new.asked ≡ a → DoesPart (map_steps given) old new
 map_cut_off given map old new w a n is created named short out same = λ t first h.
     let P : Option MapText → Type 0 = λ m. (end : Trace) × AreCutOff t (map_steps m) end × IsLeft end first new in
-    let s = stepped t (Creates map.name.now) in
+    let s = stepped t (Creates (string_bytes map.name)) in
     subst P (sym is)
-    (stepped s (Sends ports.Map (take n map.text)), inr (inl (n, short, refl)), left-sent s first (seen w a) new ports.Map (take n map.text) (left-created t first old (seen w a) map.name.now h created named) out same)
+    (stepped s (Sends ports.Map (take n map.text)), inr (inl (n, short, refl)), left-sent s first (seen w a) new ports.Map (take n map.text) (left-created t first old (seen w a) (string_bytes map.name) h created named) out same)
 
 -- all texts were written
 pub outputs_written : (outputs : Outputs) (old mid new : Outside) (w : World) (a : Option (List (List ℕ))) → Does (map_steps outputs.map) old mid → w ≡ sent mid.world ports.Out outputs.out → a ≡ mid.asked

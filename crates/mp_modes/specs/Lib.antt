@@ -1,4 +1,5 @@
 pub mod Commands
+pub mod EndStates
 pub mod Inputs
 pub mod Limits
 pub mod Outputs
@@ -10,4 +11,3 @@ pub mod Reconstructing
 pub mod Refusals
 pub mod Running
 pub mod Traces
-pub mod Words

@@ -1,5 +1,5 @@
 -- The steps that write the texts of a run.
-use Rattle.std.specs.Prelude.{List, [], ◌∷◌, ◌++◌, Option, Some, None}
+use Rattle.std.specs.Prelude.{List, [], ◌∷◌, ◌++◌, Option, Some, None, string_bytes}
 use Rattle.mp_host.specs.declared.host.Port.TheVariants as ports
 use Rattle.mp_modes.specs.Traces.{Step, Creates, Sends}
 use Rattle.mp_modes.specs.declared.outputs.MapText.{MapText}
@@ -8,7 +8,7 @@ use Rattle.mp_modes.specs.declared.outputs.Outputs.{Outputs}
 -- the map's file is created and gets its text
 abbrev pub map_steps : Option MapText → List Step
 map_steps None = []
-map_steps (Some map) = Creates map.name.now ∷ Sends ports.Map map.text ∷ []
+map_steps (Some map) = Creates (string_bytes map.name) ∷ Sends ports.Map map.text ∷ []
 
 -- the map, where there is one, then the output, then the log
 abbrev pub steps_of : Outputs → List Step

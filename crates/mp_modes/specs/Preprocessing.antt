@@ -2,13 +2,8 @@
 use Rattle.std.specs.Prelude.{◌≡◌, ◌⊎◌, ◌+◌, ◌<◌, ◌≤◌, ℕ, true, false, List, [], ◌∷◌, length, map, if◌then◌else◌}
 use Rattle.mp_logic.specs.Formula.{Formula}
 use Rattle.mp_logic.specs.Carrying.{Carries, WrittenForm}
-use Rattle.mp_logic.specs.EndStates.{NoUnits}
 use Rattle.mp_logic.specs.Keeping.{State}
-use Rattle.mp_logic.specs.Labelled.{IsLabelled}
-use Rattle.mp_logic.specs.Literal.{negation}
-use Rattle.mp_logic.specs.declared.instances.Cost.{Cost}
 use Rattle.mp_logic.specs.declared.instances.Repair.{Repair}
-use Rattle.mp_logic.specs.declared.instances.Soft.{Soft}
 use Rattle.mp_wcnf.specs.Meaning.{Denotes}
 use Rattle.mp_wcnf.specs.Refusals.{IsWithinLimits, IsRefused}
 use Rattle.mp_wcnf.specs.Writing.{instance_text}
@@ -21,9 +16,11 @@ use Rattle.mp_clauses.specs.Slots.{has_empty}
 use Rattle.mp_script.specs.declared.scripts.Group.{Group}
 use Rattle.mp_engine.specs.LogText.{log_of}
 use Rattle.mp_engine.specs.Runs.{IsDone}
+use Rattle.mp_engine.specs.Stages.{IsRefuted}
 use Rattle.mp_engine.specs.declared.done.Done.{Done}
 use Rattle.mp_map.specs.Maps.{IsMap, map_text, reconstruction_of}
 use Rattle.mp_map.specs.declared.maps.MapFile.{MapFile}
+use Rattle.mp_modes.specs.EndStates.{Tells}
 use Rattle.mp_modes.specs.Limits.{program_limits}
 use Rattle.mp_modes.specs.declared.refusal.Exceeded.{Exceeded}
 use Rattle.mp_modes.specs.declared.refusal.Exceeded.TheVariants as limits
@@ -42,30 +39,6 @@ pub record IsAccepted (text : List ℕ) (f : Formula) : Type 0 where
   pub within : IsWithinLimits program_limits f
   pub inner : inner_vars f ≤ program_limits.inner
 
--- the hard clauses 1 and -1 and no other clause
-pub record IsRefutedInstance (g : Formula) : Type 0 where
-  pub vars : g.vars ≡ 1
-  pub hard : g.hard ≡ (record { variable = 1; negative = false } ∷ []) ∷ (record { variable = 1; negative = true } ∷ []) ∷ []
-  pub soft : g.soft ≡ []
-
--- the unit soft clause that costs the weight where the literal is true
-abbrev pub unit_soft : Cost → Soft
-unit_soft p = record { weight = p.weight; clause = negation p.lit ∷ [] }
-
--- The instance counts as the labelled state with its variables and hard clauses, with the negations of its unit soft
--- clauses as cost literals, and offset 0. As in each labelled state, hard clauses are normal, weights are from 1, and no
--- variable has two cost literals.
-pub record CountsAs (g : Formula) (s : State) : Type 0 where
-  pub vars : s.vars ≡ g.vars
-  pub hard : s.hard ≡ g.hard
-  pub soft : g.soft ≡ map unit_soft s.costs
-  pub offset : s.offset ≡ 0
-  pub labelled : IsLabelled s.vars s.hard s.costs s.offset
-
--- the instance is the refuted one, or counts as a state in which nothing is left for unit propagation
-abbrev pub HasNoUnits : Formula → Type 0
-HasNoUnits g = IsRefutedInstance g ⊎ ((s : State) × CountsAs g s × NoUnits s.hard)
-
 -- the written form that the instance and the map make
 abbrev pub form_of : Formula → MapFile → WrittenForm
 form_of g m = record { «instance» = g; names = m.names; inner = m.inner; offset = m.offset; repairs = [] }
@@ -78,7 +51,7 @@ way_of s repairs = if has_empty s.hard then [] else repairs
 -- instance; a run of the script from its label view leaves a state, of which a written instance is the written form; the
 -- output is the whole text of that, with the map's offset in its first line; the map is the one spelling of a valid map,
 -- which has the names of the written form and the repairs of the run, and carries the original's models and optimum back;
--- the log is the text of the run. Where the state has no unit clause, the written instance has none.
+-- the log is the text of the run, and where that is not refuted, tells what nothing is left of in the written instance.
 pub record Preprocesses (script : List Group) (form : Form) (text map out log : List ℕ) : Type 0 where
   pub original : Formula
   pub done : Done
@@ -96,7 +69,7 @@ pub record Preprocesses (script : List Group) (form : Form) (text map out log : 
   pub original_vars : way.original ≡ original.vars
   pub written_vars : way.written ≡ written.vars
   pub carries : Carries original written (reconstruction_of way)
-  pub propagated : NoUnits done.labelled.hard → HasNoUnits written
+  pub told : (IsRefuted done.labelled → ⊥) → Tells script done.stages done.close log written way.offset
 
 -- the text passes this limit of the program
 abbrev pub Passes : Exceeded → List ℕ → Type 0

@@ -15,21 +15,21 @@ use std::alloc::Global;
 
 /// The text of a map, and the name of its file.
 #[derive(Drop)]
-pub struct MapText<'a> {
-    pub name: &'a str,
+pub struct MapText {
+    pub name: String,
     pub text: Bytes,
 }
 
 /// The texts that a run writes, in this order. A mode that has nothing to say on the log has an empty text there.
 #[derive(Drop)]
-pub struct Outputs<'a> {
-    pub map: Option<MapText<'a>>,
+pub struct Outputs {
+    pub map: Option<MapText>,
     pub out: Bytes,
     pub log: Bytes,
 }
 
 /// Writes the texts of a run; it stops at the first fault.
-pub fn write_outputs<H: Host>(outputs: &Outputs<'_>, host: &mut H) -> Result<(), Failed>
+pub fn write_outputs<H: Host>(outputs: &Outputs, host: &mut H) -> Result<(), Failed>
     ensures whole { OnOk result (Does (steps_of outputs.now) (outside_of H.world H.asked H.read_faults H.write_faults host.old) (outside_of H.world H.asked H.read_faults H.write_faults host.new)) }
     ensures part { OnErr result (DoesPart (steps_of outputs.now) (outside_of H.world H.asked H.read_faults H.write_faults host.old) (outside_of H.world H.asked H.read_faults H.write_faults host.new)) }
     ensures fault { OnErr result (Rose (H.write_faults host.old) (H.write_faults host.new)) }
@@ -49,7 +49,7 @@ pub fn write_outputs<H: Host>(outputs: &Outputs<'_>, host: &mut H) -> Result<(),
 }
 
 // Creates the map's file and writes its text, where there is a map.
-fn write_map_text<H: Host>(map: &Option<MapText<'_>>, host: &mut H) -> Result<(), Failed>
+fn write_map_text<H: Host>(map: &Option<MapText>, host: &mut H) -> Result<(), Failed>
     ensures whole { OnOk result (Does (map_steps map.now) (outside_of H.world H.asked H.read_faults H.write_faults host.old) (outside_of H.world H.asked H.read_faults H.write_faults host.new)) }
     ensures part { OnErr result (DoesPart (map_steps map.now) (outside_of H.world H.asked H.read_faults H.write_faults host.old) (outside_of H.world H.asked H.read_faults H.write_faults host.new)) }
     ensures fault { OnErr result (Rose (H.write_faults host.old) (H.write_faults host.new)) }
@@ -59,7 +59,7 @@ fn write_map_text<H: Host>(map: &Option<MapText<'_>>, host: &mut H) -> Result<()
     let Some(map) = map else {
         return Ok(());
     };
-    if let Err(_fault) = host.create_map(map.name) {
+    if let Err(_fault) = host.create_map(map.name.as_str()) {
         return Err(Failed);
     }
     if let Err(_fault) = write_all(host, Port::Map, map.text.items()) {

@@ -1,5 +1,5 @@
-//! The mode `preprocess`: from the file of an instance to a map and a smaller instance.
-ghost use Rattle.std.specs.Prelude.{◌≡◌, ◌≤◌, ◌<◌, ◌+◌, ◌^◌, ℕ, [], All, cond, IfOk, IfErr, IsErrOf, length, nat_eq};
+//! The mode `preprocess`: from the file of an instance to a smaller one and a map, where one is asked for.
+ghost use Rattle.std.specs.Prelude.{◌≡◌, ◌≤◌, ◌<◌, ◌+◌, ◌^◌, ℕ, [], All, cond, IfOk, IfErr, IsErrOf, length, nat_eq, string_bytes, option_map};
 ghost use Rattle.std.specs.List.{list_any};
 ghost use Rattle.mp_host.specs.World.{Rose};
 ghost use Rattle.mp_logic.specs.Formula.{Formula};
@@ -9,7 +9,9 @@ ghost use Rattle.mp_logic.specs.Labelled.{IsProper};
 ghost use Rattle.mp_wcnf.specs.Meaning.{Denotes};
 ghost use Rattle.mp_wcnf.specs.Refusals.{IsWithinLimits};
 ghost use Rattle.mp_modes.specs.Limits.{program_limits};
-ghost use Rattle.mp_modes.specs.PreprocessMode.{preprocess_mode};
+ghost use Rattle.mp_map.specs.Maps.{IsMap, map_text};
+ghost use Rattle.mp_modes.specs.Outputs.{map_steps};
+ghost use Rattle.mp_modes.specs.PreprocessMode.{OptimumIsKept, preprocess_mode, steps_of_map};
 ghost use Rattle.mp_labels.specs.LabelView.{label_view};
 ghost use Rattle.mp_engine.specs.Stores.{CanRun};
 ghost use Rattle.mp_modes.specs.Preprocessing.{Preprocesses, IsAccepted, IsInstanceFault, IsLabelFault, IsWantOr, inner_vars, refused_reading, way_of};
@@ -17,8 +19,8 @@ ghost use Rattle.mp_modes.specs.Presenting.{PresentsRun};
 ghost use Rattle.mp_modes.specs.Running.{Prepares, StopsReading};
 ghost use Rattle.mp_modes.specs.Traces.{outside_of};
 
-use crate::command::PreprocessWords;
 use crate::inputs::read_input;
+use crate::laws::runs_tell;
 use crate::limits::limits;
 use crate::outputs::{MapText, Outputs};
 use crate::refusal::{Exceeded, Refusal, TextRefusal};
@@ -30,44 +32,58 @@ use mp_map::{MapFile, write_map};
 use mp_script::Script;
 use mp_text::Bytes;
 use mp_wcnf::{Form, ReadError, read, write};
+use mp_words::Preprocess;
 use std::alloc::Global;
 
-/// Reads the file of an instance, and builds its map and the smaller instance.
-pub fn preprocess_file<'a, H: Host>(
+/// Reads the file of an instance, and builds the smaller instance, its map, where a name for it is given, and the log.
+pub fn preprocess_file<H: Host>(
     alloc: Global,
-    words: PreprocessWords<'a>,
+    asked: Preprocess,
     script: &Script,
     host: &mut H,
-) -> Result<Outputs<'a>, Refusal>
+) -> Result<Outputs, Refusal>
     requires { CanRun script.now }
-    ensures prepared { IfOk result (Prepares (preprocess_mode words.entry.file.now script.now words.entry.map.now words.entry.form) (outside_of H.world H.asked H.read_faults H.write_faults host.old) (outside_of H.world H.asked H.read_faults H.write_faults host.new)) }
-    ensures stopped { IfErr result (StopsReading (preprocess_mode words.entry.file.now script.now words.entry.map.now words.entry.form) (outside_of H.world H.asked H.read_faults H.write_faults host.old) (outside_of H.world H.asked H.read_faults H.write_faults host.new)) }
+    ensures prepared { IfOk result (Prepares (preprocess_mode (string_bytes asked.file) script.now (option_map string_bytes asked.map) asked.form) (outside_of H.world H.asked H.read_faults H.write_faults host.old) (outside_of H.world H.asked H.read_faults H.write_faults host.new)) }
+    ensures stopped { IfErr result (StopsReading (preprocess_mode (string_bytes asked.file) script.now (option_map string_bytes asked.map) asked.form) (outside_of H.world H.asked H.read_faults H.write_faults host.old) (outside_of H.world H.asked H.read_faults H.write_faults host.new)) }
     ensures fault { IsErrOf result Refusal.ReadFault → Rose (H.read_faults host.old) (H.read_faults host.new) }
     ensures later { H.read_faults host.old ≤ H.read_faults host.new }
     ensures writes { H.write_faults host.new ≡ H.write_faults host.old }
 {
-    let text = match read_input(alloc, words.file, host) {
+    let text = match read_input(alloc, asked.file.as_str(), host) {
         Ok(text) => text,
         Err(refusal) => return Err(refusal),
     };
-    let texts = match preprocess(alloc, text, script, words.form) {
-        Ok(texts) => texts,
+    let made = match preprocess(alloc, text, script, asked.form) {
+        Ok(made) => made,
         Err(refusal) => return Err(refusal),
     };
+    let map = match map_for(alloc, asked.map, &made.map) {
+        Ok(map) => map,
+        Err(_) => return Err(Refusal::NoMemory),
+    };
     Ok(Outputs {
-        map: Some(MapText {
-            name: words.map,
-            text: texts.map,
-        }),
-        out: texts.out,
-        log: texts.log,
+        map,
+        out: made.out,
+        log: made.log,
     })
 }
 
-/// The texts that preprocessing writes.
+// The text of a map, where a name for its file is given.
+fn map_for(alloc: Global, name: Option<String>, map: &MapFile) -> Result<Option<MapText>, NoMemory>
+    requires { IsMap map.now }
+    ensures { IfOk result (λ made. map_steps made ≡ steps_of_map (option_map string_bytes name) (map_text map.now)) }
+{
+    let Some(name) = name else {
+        return Ok(None);
+    };
+    let text = write_map(alloc, map)?;
+    Ok(Some(MapText { name, text }))
+}
+
+/// What preprocessing makes: the map, and the texts of the instance and of the log.
 #[derive(Drop)]
-pub struct Texts {
-    pub map: Bytes,
+pub struct Preprocessed {
+    pub map: MapFile,
     pub out: Bytes,
     pub log: Bytes,
 }
@@ -81,21 +97,37 @@ pub struct Presented {
 
 /// Preprocesses the text of an instance by a script. Each stage takes what the one before it made, so that no two stages
 /// are held longer than they need each other.
-pub fn preprocess(alloc: Global, text: Bytes, script: &Script, form: Form) -> Result<Texts, Refusal>
+pub fn preprocess(
+    alloc: Global,
+    text: Bytes,
+    script: &Script,
+    form: Form,
+) -> Result<Preprocessed, Refusal>
     requires { CanRun script.now }
-    ensures texts { IfOk result (λ t. Preprocesses script.now form text t.map t.out t.log) }
+    ensures made { IfOk result (λ made. Preprocesses script.now form text (map_text made.map) made.out made.log) }
+    ensures valid { IfOk result (λ made. IsMap made.map) }
     ensures refused { IfErr result (IsWantOr (IsInstanceFault text)) }
 {
     let instance = read_instance(alloc, text)?;
     let original = instance.vars;
     let labelled = label_instance(alloc, instance)?;
     let done = run_from_labelled(alloc, labelled, &limits(), script)?;
+    runs_tell();
     let log = log_text(alloc, &done)?;
     let presented = present(alloc, original, done)?;
     let out = write(alloc, &presented.instance, form, presented.map.offset)?;
-    let map = write_map(alloc, &presented.map)?;
-    Ok(Texts { map, out, log })
+    Ok(Preprocessed {
+        map: presented.map,
+        out,
+        log,
+    })
 }
+
+/// What is written without a map serves a solver as well: the original's optimum is that of the written instance plus the
+/// offset in its first line, and it has none exactly if that has none.
+pub fn optimum_is_kept()
+    ensures { OptimumIsKept }
+{}
 
 // Reads an instance within the limits of the program.
 fn read_instance(alloc: Global, text: Bytes) -> Result<Instance, Refusal>

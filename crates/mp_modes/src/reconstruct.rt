@@ -1,5 +1,5 @@
 //! The mode `reconstruct`: carrying a solver's answer for a written instance back to the original one, by the map.
-ghost use Rattle.std.specs.Prelude.{◌≡◌, ◌≤◌, IfOk, IfErr, IsErrOf};
+ghost use Rattle.std.specs.Prelude.{◌≡◌, ◌≤◌, IfOk, IfErr, IsErrOf, string_bytes};
 ghost use Rattle.mp_host.specs.World.{Rose};
 ghost use Rattle.mp_map.specs.Maps.{IsMap};
 ghost use Rattle.mp_modes.specs.ReconstructMode.{reconstruct_mode};
@@ -7,7 +7,6 @@ ghost use Rattle.mp_modes.specs.Reconstructing.{AnswersComeBack, reconstructed_t
 ghost use Rattle.mp_modes.specs.Running.{Prepares, StopsReading};
 ghost use Rattle.mp_modes.specs.Traces.{outside_of};
 
-use crate::command::ReconstructWords;
 use crate::inputs::{read_map_file, read_solution_file};
 use crate::outputs::Outputs;
 use crate::refusal::Refusal;
@@ -15,29 +14,30 @@ use mp_host::Host;
 use mp_logic::NoMemory;
 use mp_map::{MapFile, Solution, Values, back, room, write_solution};
 use mp_text::Bytes;
+use mp_words::Reconstruct;
 use std::alloc::Global;
 
 /// Reads a map and then the solution of its written instance, and builds the text of that solution, carried back.
-pub fn reconstruct_file<'a, H: Host>(
+pub fn reconstruct_file<H: Host>(
     alloc: Global,
-    words: ReconstructWords<'a>,
+    asked: Reconstruct,
     host: &mut H,
-) -> Result<Outputs<'a>, Refusal>
-    ensures prepared { IfOk result (Prepares (reconstruct_mode words.entry.file.now words.entry.map.now words.entry.form) (outside_of H.world H.asked H.read_faults H.write_faults host.old) (outside_of H.world H.asked H.read_faults H.write_faults host.new)) }
-    ensures stopped { IfErr result (StopsReading (reconstruct_mode words.entry.file.now words.entry.map.now words.entry.form) (outside_of H.world H.asked H.read_faults H.write_faults host.old) (outside_of H.world H.asked H.read_faults H.write_faults host.new)) }
+) -> Result<Outputs, Refusal>
+    ensures prepared { IfOk result (Prepares (reconstruct_mode (string_bytes asked.file) (string_bytes asked.map) asked.form) (outside_of H.world H.asked H.read_faults H.write_faults host.old) (outside_of H.world H.asked H.read_faults H.write_faults host.new)) }
+    ensures stopped { IfErr result (StopsReading (reconstruct_mode (string_bytes asked.file) (string_bytes asked.map) asked.form) (outside_of H.world H.asked H.read_faults H.write_faults host.old) (outside_of H.world H.asked H.read_faults H.write_faults host.new)) }
     ensures fault { IsErrOf result Refusal.ReadFault → Rose (H.read_faults host.old) (H.read_faults host.new) }
     ensures later { H.read_faults host.old ≤ H.read_faults host.new }
     ensures writes { H.write_faults host.new ≡ H.write_faults host.old }
 {
-    let way = match read_map_file(alloc, words.map, host) {
+    let way = match read_map_file(alloc, asked.map.as_str(), host) {
         Ok(way) => way,
         Err(refusal) => return Err(refusal),
     };
-    let solution = match read_solution_file(alloc, words.file, way.written, host) {
+    let solution = match read_solution_file(alloc, asked.file.as_str(), way.written, host) {
         Ok(solution) => solution,
         Err(refusal) => return Err(refusal),
     };
-    let out = match reconstructed(alloc, &way, &solution, words.form) {
+    let out = match reconstructed(alloc, &way, &solution, asked.form) {
         Ok(out) => out,
         Err(_) => return Err(Refusal::NoMemory),
     };

@@ -3,20 +3,20 @@ ghost use Rattle.std.specs.Prelude.{◌≡◌, ◌≤◌, IfOk, IfErr, IsErrOf, 
 ghost use Rattle.mp_host.specs.World.{Rose};
 ghost use Rattle.mp_script.specs.Grammar.{IsScriptOf};
 ghost use Rattle.mp_engine.specs.Stores.{CanRun, IsBuilt};
-ghost use Rattle.mp_modes.specs.Commands.{Answers, Bars, IsCommandLine, PreparesRequest, Request, Spells, StopsRequest, refused_script, request_of};
-ghost use Rattle.mp_modes.specs.Running.{EndsUnread, IsCounted};
+ghost use Rattle.mp_words.specs.Commands.{IsCommandLine, Request, Spells, request_of};
+ghost use Rattle.mp_modes.specs.Commands.{Answers, Bars, EndsUnspelled, PreparesRequest, StopsRequest, refused_script, refused_words};
+ghost use Rattle.mp_modes.specs.Running.{IsCounted};
 ghost use Rattle.mp_modes.specs.Traces.{outside_of};
 
-use crate::command::{Command, read_command};
 use crate::outputs::{Outputs, refuse, write_outputs};
 use crate::preprocess::preprocess_file;
 use crate::reconstruct::reconstruct_file;
 use crate::refusal::{Refusal, TextRefusal};
 use crate::status::{Outcome, Status};
-use crate::words::Words;
 use mp_engine::{built_scripts_can_run, can_run};
 use mp_host::Host;
 use mp_script::{Script, ScriptError, parse};
+use mp_words::{Command, CommandError, Words, read_command};
 use std::alloc::Global;
 
 /// Does what the words say, and answers how it ended.
@@ -24,18 +24,19 @@ use std::alloc::Global;
 /// Techniques that are no script, or of which one is not built, are refused before any file is asked for (`Answers`).
 /// Else, where the words are the command of a mode, the run reads the inputs of that mode in their order, stops at the first
 /// one that is at fault, and else does steps that are right for their texts, in order, until one fails (`Ends`, with the
-/// modes in `Answers`). `Usage` comes exactly where the words are no command; then the host is asked for nothing but to
-/// write the usage line. Want of memory can come at any point. A refusal's line goes to the log, whole unless writing it
-/// fails, which changes nothing of the status. `faults_seen` is how many host calls answered `Failed`.
+/// modes in `OfMode`). `Usage` comes exactly where the words are no command, unless memory is wanting; then the host is asked
+/// for nothing but to write the line. Want of memory can come at any point. A refusal's line goes to the log, whole unless
+/// writing it fails, which changes nothing of the status. `faults_seen` is how many host calls answered `Failed`.
 pub fn maxpre<H: Host>(alloc: Global, words: &Words, host: &mut H) -> Outcome
     ensures command { (request : Request) → Spells words.now request
         → Answers request (outside_of H.world H.asked H.read_faults H.write_faults host.old) (outside_of H.world H.asked H.read_faults H.write_faults host.new) result }
     ensures usage { (IsCommandLine words.now → ⊥)
-        → EndsUnread Refusal.Usage (outside_of H.world H.asked H.read_faults H.write_faults host.old) (outside_of H.world H.asked H.read_faults H.write_faults host.new) result }
+        → EndsUnspelled (outside_of H.world H.asked H.read_faults H.write_faults host.old) (outside_of H.world H.asked H.read_faults H.write_faults host.new) result }
     ensures counted { IsCounted (outside_of H.world H.asked H.read_faults H.write_faults host.old) (outside_of H.world H.asked H.read_faults H.write_faults host.new) result }
 {
-    let Some(command) = read_command(words) else {
-        return refuse(alloc, Refusal::Usage, host);
+    let command = match read_command(alloc, words) {
+        Ok(command) => command,
+        Err(error) => return refuse(alloc, unspelled(error), host),
     };
     let outputs = match prepare(alloc, command, host) {
         Ok(outputs) => outputs,
@@ -54,26 +55,22 @@ pub fn maxpre<H: Host>(alloc: Global, words: &Words, host: &mut H) -> Outcome
 }
 
 // Reads the inputs of a command, and builds all texts that it writes.
-fn prepare<'a, H: Host>(
-    alloc: Global,
-    command: Command<'a>,
-    host: &mut H,
-) -> Result<Outputs<'a>, Refusal>
-    ensures prepared { IfOk result (PreparesRequest (request_of command.entry) (outside_of H.world H.asked H.read_faults H.write_faults host.old) (outside_of H.world H.asked H.read_faults H.write_faults host.new)) }
-    ensures stopped { IfErr result (StopsRequest (request_of command.entry) (outside_of H.world H.asked H.read_faults H.write_faults host.old) (outside_of H.world H.asked H.read_faults H.write_faults host.new)) }
+fn prepare<H: Host>(alloc: Global, command: Command, host: &mut H) -> Result<Outputs, Refusal>
+    ensures prepared { IfOk result (PreparesRequest (request_of command) (outside_of H.world H.asked H.read_faults H.write_faults host.old) (outside_of H.world H.asked H.read_faults H.write_faults host.new)) }
+    ensures stopped { IfErr result (StopsRequest (request_of command) (outside_of H.world H.asked H.read_faults H.write_faults host.old) (outside_of H.world H.asked H.read_faults H.write_faults host.new)) }
     ensures fault { IsErrOf result Refusal.ReadFault → Rose (H.read_faults host.old) (H.read_faults host.new) }
     ensures later { H.read_faults host.old ≤ H.read_faults host.new }
     ensures writes { H.write_faults host.new ≡ H.write_faults host.old }
 {
     match command {
-        Command::Preprocess(words) => {
-            let script = match script_of(alloc, words.techniques) {
+        Command::Preprocess(asked) => {
+            let script = match script_of(alloc, asked.techniques.as_str()) {
                 Ok(script) => script,
                 Err(refusal) => return Err(refusal),
             };
-            preprocess_file(alloc, words, &script, host)
+            preprocess_file(alloc, asked, &script, host)
         }
-        Command::Reconstruct(words) => reconstruct_file(alloc, words, host),
+        Command::Reconstruct(asked) => reconstruct_file(alloc, asked, host),
     }
 }
 
@@ -93,6 +90,16 @@ fn script_of(alloc: Global, techniques: &str) -> Result<Script, Refusal>
         return Ok(script);
     }
     Err(Refusal::Unbuilt)
+}
+
+// The refusal of words that were not read.
+fn unspelled(error: CommandError) -> Refusal
+    ensures { result ≡ refused_words error }
+{
+    match error {
+        CommandError::Usage => Refusal::Usage,
+        CommandError::NoMemory => Refusal::NoMemory,
+    }
 }
 
 // The refusal of techniques that are no script.

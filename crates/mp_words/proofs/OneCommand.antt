@@ -10,7 +10,7 @@ use Rattle.mp_words.specs.declared.modes.Mode.{Mode}
 use Rattle.mp_words.specs.declared.modes.Mode.TheVariants as modes
 use Rattle.mp_words.specs.Modes.{mode_word, options_of}
 use Rattle.mp_words.specs.CommandLines.{Given, Word, plain, option, word_text, IsWord, plain_words, IsLine, value_of}
-use Rattle.mp_words.specs.Commands.{form_text, values_text, value_or, default_techniques, IsPreprocess, IsReconstruct, CommandsAreOne}
+use Rattle.mp_words.specs.Commands.{form_text, values_text, value_or, default_techniques, IsPreprocess, IsReconstruct, Request, Preprocess, Reconstruct, IsCommandLine, CommandsAreOne}
 use Rattle.mp_words.proofs.Readings.{line_once, first_text, cons_first}
 use Rattle.mp_words.proofs.Taken.{not_hyphen}
 
@@ -55,20 +55,34 @@ some_one a b e = cc
 modes_apart : mode_word modes.Preprocess ≡ mode_word modes.Reconstruct → ⊥
 modes_apart e = let q : ◌≡◌ {A = ℕ} 112 114 = cons_first 112 114 _ _ e in absurd (omega (arith, q))
 
+same_preprocess : (words : List (List ℕ)) (f g t u : List ℕ) (m n : Option (List ℕ)) (a b : Form) → IsPreprocess words f t m a → IsPreprocess words g u n b → Preprocess f t m a ≡ Preprocess g u n b
+same_preprocess words f g t u m n a b h k =
+    let o = line_once modes.Preprocess words f g h.options k.options h.line k.line in
+    let files : f ≡ g = o.0 in
+    let techniques : t ≡ u = h.techniques_are ∙ ap (λ (x : List Given). value_or (codes "techniques") default_techniques x) o.1 ∙ sym k.techniques_are in
+    let maps : m ≡ n = h.map_is ∙ ap (λ (x : List Given). value_of (codes "mapfile") x) o.1 ∙ sym k.map_is in
+    let forms : a ≡ b = form_one a b (h.form_is ∙ ap (λ (x : List Given). value_or (codes "form") (codes "h") x) o.1 ∙ sym k.form_is) in
+    rw (files, techniques, maps, forms) refl
+
+same_reconstruct : (words : List (List ℕ)) (f g m n : List ℕ) (a b : Values) → IsReconstruct words f m a → IsReconstruct words g n b → Reconstruct f m a ≡ Reconstruct g n b
+same_reconstruct words f g m n a b h k =
+    let o = line_once modes.Reconstruct words f g h.options k.options h.line k.line in
+    let files : f ≡ g = o.0 in
+    let maps : m ≡ n = some_one m n (h.map_is ∙ ap (λ (x : List Given). value_of (codes "mapfile") x) o.1 ∙ sym k.map_is) in
+    let forms : a ≡ b = values_one a b (h.form_is ∙ ap (λ (x : List Given). value_or (codes "values") (codes "bits") x) o.1 ∙ sym k.form_is) in
+    rw (files, maps, forms) refl
+
+apart : (words : List (List ℕ)) (f t : List ℕ) (m : Option (List ℕ)) (a : Form) (g n : List ℕ) (b : Values) → IsPreprocess words f t m a → IsReconstruct words g n b → ⊥
+apart words f t m a g n b h k = modes_apart (line_mode modes.Preprocess modes.Reconstruct words f g h.options k.options h.line k.line)
+
 pub commands_one : CommandsAreOne
-commands_one = record {
-  preprocess = λ words f g t u m n a b h k.
-      let o = line_once modes.Preprocess words f g h.options k.options h.line k.line in (
-        o.0,
-        h.techniques_are ∙ ap (λ (x : List Given). value_or (codes "techniques") default_techniques x) o.1 ∙ sym k.techniques_are,
-        h.map_is ∙ ap (λ (x : List Given). value_of (codes "mapfile") x) o.1 ∙ sym k.map_is,
-        form_one a b (h.form_is ∙ ap (λ (x : List Given). value_or (codes "form") (codes "h") x) o.1 ∙ sym k.form_is),
-      );
-  reconstruct = λ words f g m n a b h k.
-      let o = line_once modes.Reconstruct words f g h.options k.options h.line k.line in (
-        o.0,
-        some_one m n (h.map_is ∙ ap (λ (x : List Given). value_of (codes "mapfile") x) o.1 ∙ sym k.map_is),
-        values_one a b (h.form_is ∙ ap (λ (x : List Given). value_or (codes "values") (codes "bits") x) o.1 ∙ sym k.form_is),
-      );
-  apart = λ words f t m a g n b h k. modes_apart (line_mode modes.Preprocess modes.Reconstruct words f g h.options k.options h.line k.line);
-}
+commands_one words (Preprocess f t m a) (Preprocess g u n b) h k = same_preprocess words f g t u m n a b h k
+commands_one words (Reconstruct f m a) (Reconstruct g n b) h k = same_reconstruct words f g m n a b h k
+commands_one words (Preprocess f t m a) (Reconstruct g n b) h k = absurd (apart words f t m a g n b h k)
+commands_one words (Reconstruct g n b) (Preprocess f t m a) h k = absurd (apart words f t m a g n b k h)
+
+-- where the words spell neither request, they spell none
+pub no_request : (words : List (List ℕ)) → ((file techniques : List ℕ) (map : Option (List ℕ)) (form : Form) → IsPreprocess words file techniques map form → ⊥)
+    → ((file map : List ℕ) (form : Values) → IsReconstruct words file map form → ⊥) → IsCommandLine words → ⊥
+no_request words one other (Preprocess file techniques map form, h) = one file techniques map form h
+no_request words one other (Reconstruct file map form, h) = other file map form h

@@ -1,5 +1,5 @@
 -- Commands: what a mode, its operand and the values of its options ask for, defaults filled in.
-use Rattle.std.specs.Prelude.{◌≡◌, ◌⊎◌, ℕ, List, Option, Some, None, codes, string_bytes, unwrap_or, option_map}
+use Rattle.std.specs.Prelude.{◌≡◌, ℕ, List, Option, Some, None, codes, string_bytes, unwrap_or, option_map}
 use Rattle.mp_wcnf.specs.declared.writer.Form.{Form}
 use Rattle.mp_wcnf.specs.declared.writer.Form.TheVariants as forms
 use Rattle.mp_map.specs.declared.solutions.Values.{Values}
@@ -17,7 +17,7 @@ value_or name default options = unwrap_or (value_of name options) default
 
 -- the techniques that run where none are named
 abbrev pub default_techniques : List ℕ
-default_techniques = codes "[bu]#[buvsr]"
+default_techniques = codes "[bu]#[buvsrgc]"
 
 abbrev pub form_text : Form → List ℕ
 form_text forms.H = codes "h"
@@ -42,28 +42,31 @@ pub record IsReconstruct (words : List (List ℕ)) (file map : List ℕ) (form :
   pub map_is : Some map ≡ value_of (codes "mapfile") options
   pub form_is : values_text form ≡ value_or (codes "values") (codes "bits") options
 
+-- what words may ask for: to preprocess a file by techniques, with the name of the map, where one is to be written, and a
+-- form; or to carry the solution in a file back, with the name of the map and a form of values
+pub data Request : Type 0 where
+  Preprocess : List ℕ → List ℕ → Option (List ℕ) → Form → Request
+  Reconstruct : List ℕ → List ℕ → Values → Request
+
+-- the words spell this request
+abbrev pub Spells : List (List ℕ) → Request → Type 0
+Spells words (Preprocess file techniques map form) = IsPreprocess words file techniques map form
+Spells words (Reconstruct file map form) = IsReconstruct words file map form
+
 -- the words are a command of one of the modes
 abbrev pub IsCommandLine : List (List ℕ) → Type 0
-IsCommandLine words =
-    ((file : List ℕ) × (techniques : List ℕ) × (map : Option (List ℕ)) × (form : Form) × IsPreprocess words file techniques map form)
-    ⊎ ((file : List ℕ) × (map : List ℕ) × (form : Values) × IsReconstruct words file map form)
+IsCommandLine words = (request : Request) × Spells words request
 
--- the words are this command
-abbrev pub IsCommand : List (List ℕ) → Command → Type 0
-IsCommand words (commands.Preprocess c) = IsPreprocess words (string_bytes c.file) (string_bytes c.techniques) (option_map string_bytes c.map) c.form
-IsCommand words (commands.Reconstruct c) = IsReconstruct words (string_bytes c.file) (string_bytes c.map) c.form
+-- the request that a read command stands for
+abbrev pub request_of : Command → Request
+request_of (commands.Preprocess c) = Preprocess (string_bytes c.file) (string_bytes c.techniques) (option_map string_bytes c.map) c.form
+request_of (commands.Reconstruct c) = Reconstruct (string_bytes c.file) (string_bytes c.map) c.form
 
 -- what a refusal says
 abbrev pub IsFault : List (List ℕ) → CommandError → Type 0
 IsFault words errors.Usage = IsCommandLine words → ⊥
 IsFault words errors.NoMemory = Unit {0}
 
--- the law: words are at most one command
-pub record CommandsAreOne : Type 0 where
-  pub preprocess : (words : List (List ℕ)) (file other_file techniques other_techniques : List ℕ) (map other_map : Option (List ℕ)) (form other_form : Form)
-      → IsPreprocess words file techniques map form → IsPreprocess words other_file other_techniques other_map other_form
-      → (file ≡ other_file) × (techniques ≡ other_techniques) × (map ≡ other_map) × (form ≡ other_form)
-  pub reconstruct : (words : List (List ℕ)) (file other_file map other_map : List ℕ) (form other_form : Values)
-      → IsReconstruct words file map form → IsReconstruct words other_file other_map other_form → (file ≡ other_file) × (map ≡ other_map) × (form ≡ other_form)
-  pub apart : (words : List (List ℕ)) (file techniques : List ℕ) (map : Option (List ℕ)) (form : Form) (other_file other_map : List ℕ) (values : Values)
-      → IsPreprocess words file techniques map form → IsReconstruct words other_file other_map values → ⊥
+-- the law: words spell one request at most
+abbrev pub CommandsAreOne : Type 0
+CommandsAreOne = (words : List (List ℕ)) (one other : Request) → Spells words one → Spells words other → one ≡ other

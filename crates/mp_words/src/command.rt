@@ -3,7 +3,7 @@ ghost use Rattle.std.specs.Prelude.{◌≡◌, ℕ, List, Option, IfOk, IfSome, 
 ghost use Rattle.clap.specs.Words.{first_value, found_of};
 ghost use Rattle.mp_map.specs.declared.solutions.Values.{Values};
 ghost use Rattle.mp_wcnf.specs.declared.writer.Form.{Form};
-ghost use Rattle.mp_words.specs.Commands.{IsCommand, IsFault, IsPreprocess, IsReconstruct, form_text, values_text};
+ghost use Rattle.mp_words.specs.Commands.{IsFault, IsPreprocess, IsReconstruct, Spells, form_text, request_of, values_text};
 ghost use Rattle.mp_words.specs.Reading.{HasLine, IsMatched};
 
 use crate::lines::is_line;
@@ -64,7 +64,7 @@ impl From<NoMemory> for CommandError {
 /// Reads the words as a command, with the defaults of the options that they leave out. `Usage` comes exactly where the words
 /// are no command, but want of memory may come before it.
 pub fn read_command(alloc: Global, words: &Words) -> Result<Command, CommandError>
-    ensures { MatchResult result (IsCommand words.now) (IsFault words.now) }
+    ensures { MatchResult result (λ command. Spells words.now (request_of command)) (IsFault words.now) }
 {
     if let Some(command) = read_preprocess(alloc, words)? {
         return Ok(Command::Preprocess(command));
@@ -87,7 +87,7 @@ fn read_preprocess(alloc: Global, words: &Words) -> Result<Option<Preprocess>, N
         return Ok(None);
     };
     let file = owned(alloc, value_or(&matches, "operand", ""))?;
-    let techniques = owned(alloc, value_or(&matches, "techniques", "[bu]#[buvsr]"))?;
+    let techniques = owned(alloc, value_or(&matches, "techniques", "[bu]#[buvsrgc]"))?;
     let map = owned_value(alloc, &matches, "mapfile")?;
     Ok(Some(Preprocess {
         file,

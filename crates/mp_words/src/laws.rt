@@ -1,7 +1,7 @@
 //! Laws of the definitions, each the contract of a function that does nothing.
 ghost use Rattle.mp_words.specs.Commands.{CommandsAreOne};
 
-/// Words are at most one command.
+/// Words spell one request at most.
 pub fn commands_are_one()
     ensures { CommandsAreOne }
 {}

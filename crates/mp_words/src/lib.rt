@@ -1,7 +1,7 @@
 //! The words of a command line, and the command that they are.
 //!
-//! It promises that `read_command` answers the command of the words, defaults filled in, or that they are none
-//! (`IsCommandLine` of `specs/Commands`, over `IsLine` of `specs/CommandLines`). The words are checked here, and then `clap`
+//! It promises that `read_command` answers the command of the words, defaults filled in, or that they are none (`Spells` and
+//! `IsCommandLine` of `specs/Commands`, over `IsLine` of `specs/CommandLines`). The words are checked here, and then `clap`
 //! reads them as one simple command. The table of modes and their options is `modes` in the code and `specs/Modes` among
 //! the definitions: a further mode is a line of each, and a function that reads its values in `command`; a further option is
 //! one line more of `parsed`. It stands on `mp_logic`, and on `mp_wcnf` and `mp_map` for the forms of the outputs.

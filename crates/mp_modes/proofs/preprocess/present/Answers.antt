@@ -36,7 +36,6 @@ returns-clause-presents c =
       total = c.in_ok-instance.ensures.total;
       inner_from = c.in_ok-instance.ensures.inner_from;
       inner_to = c.in_ok-instance.ensures.inner_to;
-      no_units = c.in_ok-instance.ensures.no_units;
       all_occur = c.in_ok-instance.ensures.all_occur;
       formula = subst Instance (c.instance-2.view_is ∙ ap (λ (x : WrittenForm). x.«instance») c.instance.view_is) c.instance-2.invariant;
     } in

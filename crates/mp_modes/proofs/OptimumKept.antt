@@ -1,0 +1,5 @@
+-- What `preprocess` writes where it writes no map.
+use Rattle.mp_modes.specs.PreprocessMode.{OptimumIsKept}
+
+pub optimum_kept : OptimumIsKept
+optimum_kept script form text steps (map, out, log, p, e) = (p.original, p.written, p.way.offset, out, log, e, p.accepted, p.out_is, p.out_denotes, p.carries.agrees)
