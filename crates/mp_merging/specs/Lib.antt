@@ -1,0 +1,2 @@
+pub mod MergedForm
+pub mod Tables
