@@ -1,0 +1,4 @@
+pub mod Labels
+pub mod AtMostOnes
+pub mod Choosing
+pub mod Joining

@@ -1,0 +1,10 @@
+pub mod Trails
+pub mod Settling
+pub mod Roots
+pub mod Occurring
+pub mod FailedTurns
+pub mod LabelLists
+pub mod PairClauses
+pub mod PairTurns
+pub mod Searching
+pub mod Visits

@@ -1,0 +1,4 @@
+pub mod Failed
+pub mod Pairs
+pub mod Propagating
+pub mod Partners
