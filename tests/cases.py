@@ -13,9 +13,11 @@ A line of tests/cases is a case, in JSON: its name and the runs that it needs, e
 `out`, `map` and `log` are left out where they are empty, `faults` (how many host calls failed) where it is 0, each character
 is a byte. The host is told by `chunk` (bytes that one call moves), `fail` (a list of the places of calls that fail, from 0),
 `stop` ({"out": 4}: the port takes 4 bytes) and `quiet` (true: the desk that tells nothing of its ports, so nothing is wanted of
-them). Two keys write many runs at once, from a run that ends with status 0:
+them). Three keys write many runs at once, from a run that ends with status 0:
 
-    "each_call": 7      the run again for every host call, that one failing, where a call moves 7 bytes
+    "each_call": 7      the run again for every host call, that one failing, where a call moves 7 bytes; and again, the next one
+                        failing too
+    "each_stop": true   the run again for every port and every number of bytes below its text's length, the port taking so many
     "each_front": "M"   the run again for every proper front of the map file of this name, each refused at its last line
 
 A line of tests/library_cases has a name, the lines that the program reads, each a call of the libraries, and those that it must
@@ -78,32 +80,61 @@ def option(run, name):
     return [word.removeprefix(f"--{name}=") for word in run["words"] if word.startswith(f"--{name}=")]
 
 
+PORTS = ("map", "out", "log")
+
+
+def inputs_of(run):
+    """The names of the files that a run reads, in their order, and whether it writes a map."""
+    mode, operand = [word for word in run["words"] if not word.startswith("-")]
+    names = {
+        "preprocess": [operand],
+        "reconstruct": option(run, "original") + option(run, "mapfile") + [operand],
+        "evaluate": [operand] + option(run, "solution"),
+        "workload": [],
+        "upgrade": [operand],
+    }
+    return names[mode], mode in ("preprocess", "upgrade") and bool(option(run, "mapfile"))
+
+
 def calls_of(run, chunk):
     """The host calls of a run that ends well: what each does, and how many bytes it moves. An input is opened and read up to
     a read of no bytes; the map is created and written, where it has a name, then the output, then the log."""
     pieces = lambda port: [(port, min(chunk, len(run[port]) - at)) for at in range(0, len(run.get(port, "")), chunk)]
-    mode, file = [word for word in run["words"] if not word.startswith("-")]
-    inputs = [file] if mode == "preprocess" else option(run, "original") + option(run, "mapfile") + [file]
+    names, has_map = inputs_of(run)
     calls = []
-    for name in inputs:
+    for name in names:
         reads = -(-len(run["files"][name]) // chunk) + 1
         calls += [("open", 0)] + [("read", 0)] * reads
-    if mode == "preprocess" and option(run, "mapfile"):
+    if has_map:
         calls += [("create", 0)] + pieces("map")
     return calls + pieces("out") + pieces("log")
 
 
 def failing_runs(run, chunk):
-    """The run for each host call that fails: a fault of an input is told and leaves no output, one of an output leaves the
-    texts before it whole and a front of its own."""
+    """The run for each host call that fails, alone and with the next: a fault of an input is told and leaves no output, and the
+    next call is the one that tells it; one of an output leaves the texts before it whole and a front of its own, and no call
+    follows."""
     calls = calls_of(run, chunk)
     for place, (kind, _) in enumerate(calls):
+        failing = {**run, "chunk": chunk}
         if kind in ("open", "read"):
             ends = {"status": 3, "log": "maxpre: read fault\n", "out": "", "map": ""}
+            untold = {"log": "", "faults": 2}
         else:
-            sent = {port: sum(n for k, n in calls[:place] if k == port) for port in ("map", "out", "log")}
-            ends = {port: run.get(port, "")[: sent[port]] for port in sent} | {"status": 4}
-        yield {**run, **ends, "faults": 1, "chunk": chunk, "fail": [place]}
+            sent = {port: sum(n for k, n in calls[:place] if k == port) for port in PORTS}
+            ends = {port: run.get(port, "")[: sent[port]] for port in PORTS} | {"status": 4}
+            untold = {}
+        yield {**failing, **ends, "faults": 1, "fail": [place]}
+        yield {**failing, **ends, "faults": 1, **untold, "fail": [place, place + 1]}
+
+
+def stopped_runs(run):
+    """The run for each port that takes too few bytes: the ports before it are whole, and those behind it are empty."""
+    for number, port in enumerate(PORTS):
+        whole = run.get(port, "")
+        for taken in range(len(whole)):
+            ends = {behind: "" for behind in PORTS[number:]} | {port: whole[:taken]}
+            yield {**run, **ends, "status": 4, "faults": 1, "stop": {port: taken}}
 
 
 def fronts_of(run, name):
@@ -121,10 +152,13 @@ def runs_of(case):
     for run in case["runs"]:
         run = dict(run)
         chunk = run.pop("each_call", None)
+        stop = run.pop("each_stop", None)
         front = run.pop("each_front", None)
         yield run
         if chunk:
             yield from failing_runs(run, chunk)
+        if stop:
+            yield from stopped_runs(run)
         if front:
             yield from fronts_of(run, front)
 

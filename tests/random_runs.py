@@ -4,9 +4,10 @@
     tests/random_runs.py SEED RUNS
 
 Of each run it checks that the status is 0, that the written instance has a hard model exactly if the original has one, that its
-optimum with the offset is the original's, that an optimal answer, carried back, costs just that, that the last counts of the log
-are the sizes of the written instance, and that nothing is written where the text is broken. It prints the first instance that
-fails, made as small as it can be by leaving out lines, and ends with status 1. It is no part of the gate.
+optimum with the offset is the original's, that an optimal answer, carried back, costs just that, also by what `reconstruct` and
+`evaluate` say, that the last counts of the log are the sizes of the written instance where nothing is merged, that a map of the
+first version is upgraded to the one of the second, and that nothing is written where the text is broken. It prints the first
+instance that fails, made as small as it can be by leaving out lines, and ends with status 1. It is no part of the gate.
 """
 import itertools
 import os
@@ -17,7 +18,7 @@ import tempfile
 from pathlib import Path
 
 PROGRAM = Path(__file__).resolve().parent.parent / "crates/maxpre/out/maxpre"
-LETTERS = "usrbvelgmc"
+LETTERS = "usrbvelgmcGfpTKH"
 
 
 def drawn_instance(draw):
@@ -68,14 +69,18 @@ def run(*words):
     return subprocess.run([PROGRAM, *words], capture_output=True, text=True)
 
 
-def fault(lines, script):
+def fault(lines, script, options):
     """What is wrong with the run, or none."""
     for name in ("map", "answer"):
         Path(name).unlink(missing_ok=True)
     Path("instance").write_text("".join(line + "\n" for line in lines))
-    did = run("preprocess", "instance", f"--techniques={script}", "--mapfile=map")
+    did = run("preprocess", "instance", f"--techniques={script}", "--mapfile=map", *options)
     if did.returncode != 0:
         return f"status {did.returncode}: {did.stderr}"
+    run("preprocess", "instance", f"--techniques={script}", "--mapfile=first", *options, "--mapversion=1")
+    run("upgrade", "first", "--mapfile=upgraded")
+    if Path("upgraded").read_bytes() != Path("map").read_bytes():
+        return "the map of the first version is upgraded to another one"
     written = did.stdout.splitlines()
     hard, soft, variables = parsed(lines)
     small_hard, small_soft, small_variables = parsed(written)
@@ -85,14 +90,18 @@ def fault(lines, script):
         return "one of both has no hard model"
     stages = [line.split() for line in did.stderr.splitlines() if line.startswith("c stage")]
     sizes = [len(small_hard), sum(map(len, small_hard)), len(small_soft)]
-    if stages and not did.stderr.endswith("c refuted\n") and list(map(int, stages[-1][4:])) != sizes:
+    if stages and not options and not did.stderr.endswith("c refuted\n") and list(map(int, stages[-1][4:])) != sizes:
         return f"the log counts {stages[-1][4:]}, and the instance has {sizes}"
     if best is None:
         return None
     if best[0] != small[0] + offset:
         return f"the optimum is {best[0]}, and {small[0]} with the offset {offset}"
     Path("answer").write_text("s OPTIMUM FOUND\nv " + "".join("01"[value] for value in small[1]) + "\n")
-    back = run("reconstruct", "answer", "--mapfile=map")
+    back = run("reconstruct", "answer", "--mapfile=map", "--original=instance")
+    Path("back").write_text(back.stdout)
+    told = run("evaluate", "instance", "--solution=back")
+    if [back.stdout.split("\n")[0], told.stdout.split("\n")[0]] != [f"o {best[0]}"] * 2:
+        return f"the costs that are told are {back.stdout!r} and {told.stdout!r}, not {best[0]}"
     values = [digit == "1" for digit in back.stdout.splitlines()[-1][2:]]
     values += [False] * (variables - len(values))
     if cost(hard, soft, values) != best[0]:
@@ -115,17 +124,17 @@ def main():
     with tempfile.TemporaryDirectory() as folder:
         os.chdir(folder)
         for _ in range(runs):
-            lines, script = drawn_instance(draw), drawn_script(draw)
-            wrong = fault(lines, script) or (broken_fault(draw, lines) if lines else None)
+            lines, script, options = drawn_instance(draw), drawn_script(draw), draw.choice([[], ["--merge=yes"]])
+            wrong = fault(lines, script, options) or (broken_fault(draw, lines) if lines else None)
             if wrong:
                 place = 0
                 while place < len(lines):
                     fewer = lines[:place] + lines[place + 1 :]
-                    if fault(fewer, script):
+                    if fault(fewer, script, options):
                         lines = fewer
                     else:
                         place += 1
-                print("\n".join(lines), f"--techniques={script}", fault(lines, script) or wrong, sep="\n")
+                print("\n".join(lines), f"--techniques={script}", *options, fault(lines, script, options) or wrong, sep="\n")
                 sys.exit(1)
     print(f"{runs} runs, none failed")
 

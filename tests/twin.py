@@ -107,11 +107,13 @@ class Store:
             if not weight:
                 del self.weights[lit]
 
-    def fix(self, lit):
-        touched = sorted(set(self.having(lit)) | set(self.having(-lit)))
-        added = [tuple(l for l in self.slots[id] if l != -lit) for id in touched if lit not in self.slots[id]]
-        weights = {l: 0 for l in (lit, -lit) if l in self.weights}
-        self.replace(touched, added, [((lit,), (lit,))], weights, self.weights.get(lit, 0))
+    def fix(self, *fixed):
+        """Literals become true for good, all together."""
+        false = {-lit for lit in fixed}
+        touched = [id for id, c in self.live() if set(c) & (false | set(fixed))]
+        added = [tuple(l for l in self.slots[id] if l not in false) for id in touched if not set(self.slots[id]) & set(fixed)]
+        weights = {l: 0 for lit in fixed for l in (lit, -lit) if l in self.weights}
+        self.replace(touched, added, [((lit,), (lit,)) for lit in fixed], weights, sum(self.weights.get(lit, 0) for lit in fixed))
 
     def handed_on(self):
         """The store of the state that this one hands on."""
@@ -436,7 +438,7 @@ def pair(store, b):
     if not added:
         return None
     store.replace([], added)
-    return store.costs()
+    return [other for other in store.costs() if other != b]
 
 
 TECHNIQUES = {
@@ -455,8 +457,94 @@ TECHNIQUES = {
     "p": (Store.costs, pair),
 }
 
+# ---- techniques that ask an oracle ----
+
+def assignments(store):
+    """All assignments, as sets of true literals, in the order in which the binary numbers count whose lowest digit is the first
+    variable."""
+    for number in range(2**store.vars):
+        yield {v if number >> v - 1 & 1 else -v for v in range(1, store.vars + 1)}
+
+
+def asked(store, assumptions, budget):
+    """What the oracle of drawn stores answers: the first assignment that makes all clauses and assumptions true, else all
+    assumptions as a core; `None` where no clause may be learnt and one is needed."""
+    clauses = [c for _, c in store.live()]
+    for true in assignments(store):
+        if true.issuperset(assumptions) and all(true & set(c) for c in clauses):
+            return "model", true
+    if budget == 0 and is_spent_at_once(store, assumptions):
+        return "unknown", None
+    return "core", assumptions
+
+
+def is_spent_at_once(store, assumptions):
+    """Whether a search that must fail meets a conflict under an assumption or a decision before it finds an assumption false.
+    A conflict without any needs no clause."""
+    true = propagated(store, [])
+    if true is None:
+        return False
+    for lit in assumptions:
+        if -lit in true:
+            return False
+        true = propagated(store, true | {lit})
+        if true is None:
+            return True
+    return True
+
+
+def trim(store, budget):
+    found, changed = [], False
+    for b in store.costs():
+        if any(-b in true for true in found):
+            continue
+        verdict, what = asked(store, [-b], budget)
+        if verdict == "unknown":
+            return "spent", changed
+        if verdict == "model":
+            found.append(what)
+            continue
+        store.fix(b)
+        changed = True
+        if store.refuted:
+            break
+    return "finished", changed
+
+
+def pair_cores(store, budget):
+    found, changed = [], False
+    for a, b in combinations(store.costs(), 2):
+        if is_covered(store, a, b) or any({-a, -b} <= true for true in found):
+            continue
+        verdict, what = asked(store, [-a, -b], budget)
+        if verdict == "unknown":
+            return "spent", changed
+        if verdict == "model":
+            found.append(what)
+            continue
+        store.replace([], [normal((a, b))])
+        changed = True
+    return "finished", changed
+
+
+def harden(store, budget):
+    verdict, true = asked(store, [], budget)
+    if verdict == "unknown":
+        return "spent", False
+    if verdict == "core":
+        store.replace([], [()])
+        return "finished", True
+    bound = sum(weight for lit, weight in store.weights.items() if lit in true)
+    dear = [-lit for lit in store.costs() if lit not in true and store.weights[lit] >= bound]
+    if dear:
+        store.fix(*dear)
+    return f"bound {bound}", bool(dear)
+
+
+ASKING = {"T": trim, "K": pair_cores, "H": harden}
+
 # the techniques that the program has an arm for
-WRITTEN = "usrbvelgmc"
+WRITTEN = "usrbvelgmcGfpTKH"
 
 
 # ---- drawn stores ----
@@ -528,7 +616,7 @@ def ran(ending, changed):
 def drawn(letter, place, counts=None):
     """What is printed of the drawn store of a place."""
     numbers = Draws(place)
-    text = numbers.text(LABEL_MIX if letter in "lgmcGp" else PLAIN_MIX)
+    text = numbers.text(LABEL_MIX if letter in "lgmcGpTKH" else PLAIN_MIX)
     store = Store(text)
     store.inner = store.vars + numbers.below(3)
     printed = text
@@ -539,11 +627,15 @@ def drawn(letter, place, counts=None):
                 store.fix(lit)
             printed += shown(store) + occurrences(store)
     elif not store.refuted:
-        budget = numbers.below(24)
-        candidates, turn = TECHNIQUES[letter]
-        ending, changed = run_turns(store, candidates(store), turn, None if budget > 20 else budget)
+        number = numbers.below(24)
+        if letter in ASKING:
+            ending, changed = ASKING[letter](store, 0 if number < 6 else 1000)
+        else:
+            candidates, turn = TECHNIQUES[letter]
+            ending, changed = run_turns(store, candidates(store), turn, None if number > 20 else number)
         if counts is not None:
-            for key, holds in (("changed", changed), (ending, True), ("refuted", store.refuted)):
+            kind = "bound" if ending.startswith("bound") else ending
+            for key, holds in (("changed", changed), (kind, True), ("refuted", store.refuted)):
                 counts[key] = counts.get(key, 0) + holds
         printed += ran(ending, changed) + shown(store) + occurrences(store)
     return printed + shown(store.handed_on())
@@ -573,6 +665,9 @@ NAMES = {
     "G": "at-most-ones on drawn stores",
     "f": "failed-literal probing on drawn stores",
     "p": "pair probing on drawn stores",
+    "T": "trimming on drawn stores",
+    "K": "pair cores on drawn stores",
+    "H": "hardening on drawn stores",
 }
 
 
@@ -589,7 +684,7 @@ def write():
 
 
 def count():
-    for letter in TECHNIQUES:
+    for letter in [*TECHNIQUES, *ASKING]:
         counts = {}
         for place in range(STORES):
             drawn(letter, place, counts)

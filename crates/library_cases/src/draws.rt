@@ -1,11 +1,12 @@
 //! Drawn stores, as `tests/twin.py` draws them: what a technique does with them is told by a digest.
 
 use crate::page::Page;
+use crate::probes::probe;
 use crate::stores::{fix, handed_on, put_occurrences, run, show};
 use crate::words::{parts, small};
 use case_text::Trouble;
 use mp_labels::label;
-use mp_logic::{Limits, Lit};
+use mp_logic::{Assignment, Limits, ListOf, Lit};
 use mp_store::Store;
 use mp_wcnf::read;
 use std::alloc::Global;
@@ -43,18 +44,62 @@ fn put_drawn(alloc: Global, letter: &str, place: u32, page: &mut Page) -> Result
     if letter == "=" {
         fix_drawn(alloc, &mut store, &mut draws, page)?;
     } else if !store.refuted() {
-        let turns = draws.below(24);
-        let budget = if turns > 20 {
-            None
-        } else {
-            Some(u64::from(turns))
-        };
-        run(alloc, &mut store, letter, budget, page)?;
+        run_drawn(alloc, &mut store, letter, draws.below(24), page)?;
         show(&store, page);
         put_occurrences(&store, page);
     }
     show(&handed_on(alloc, store)?, page);
     Ok(())
+}
+
+// Runs the technique on a drawn number: its turns, where it is no greater than 20, and for a technique that asks an oracle no
+// clause to learn where it is below 6.
+fn run_drawn(
+    alloc: Global,
+    store: &mut Store,
+    letter: &str,
+    number: u32,
+    page: &mut Page,
+) -> Result<(), Trouble> {
+    if matches!(letter, "T" | "K" | "H") {
+        let tried = all_assignments(alloc, store.vars())?;
+        let budget = if number < 6 { 0 } else { ENOUGH };
+        return probe(alloc, store, letter, budget, tried.items(), page);
+    }
+    let budget = if number > 20 {
+        None
+    } else {
+        Some(u64::from(number))
+    };
+    run(alloc, store, letter, budget, page)
+}
+
+// A drawn store has so many variables at most.
+const FEW: u32 = 9;
+
+// No query about a drawn store needs so many clauses learnt.
+const ENOUGH: u32 = 1_000;
+
+// All assignments, in the order in which the binary numbers count whose lowest digit is the first variable.
+fn all_assignments(alloc: Global, vars: u32) -> Result<ListOf<Assignment>, Trouble> {
+    if vars > FEW {
+        return Err(Trouble::Line);
+    }
+    let mut all = ListOf::new(alloc);
+    for number in 0..1_u32 << vars {
+        all.push(assignment(alloc, vars, number)?)?;
+    }
+    Ok(all)
+}
+
+fn assignment(alloc: Global, vars: u32, number: u32) -> Result<Assignment, Trouble> {
+    let mut values = Assignment::new(alloc);
+    let mut rest = number;
+    for _ in 0..vars {
+        values.push(rest % 2 == 1)?;
+        rest /= 2;
+    }
+    Ok(values)
 }
 
 // The store of a text, with room for so many more variables.
@@ -114,7 +159,7 @@ const OF_LABELS: Mix = Mix {
 
 fn mix_of(letter: &str) -> Mix {
     match letter {
-        "l" | "g" | "m" | "c" => OF_LABELS,
+        "l" | "g" | "m" | "c" | "G" | "p" | "T" | "K" | "H" => OF_LABELS,
         _ => PLAIN,
     }
 }

@@ -9,7 +9,7 @@ use crate::words::{parts, small};
 use case_text::{Trouble, number, unescaped};
 use mp_labels::{label, unlabel};
 use mp_logic::{Instance, Weight};
-use mp_map::{Solution, Values, read_map, read_solution, write_map, write_solution};
+use mp_map::{Solution, Values, read_map, read_solution, upgrade, write_map, write_solution};
 use mp_text::Bytes;
 use mp_wcnf::{Form, write};
 use std::alloc::Global;
@@ -54,6 +54,14 @@ pub fn put_label_view(alloc: Global, given: &Given, page: &mut Page) -> Result<(
 pub fn put_map(alloc: Global, text: &str, page: &mut Page) -> Result<(), Trouble> {
     match read_map(alloc, unescaped(alloc, text)?.items()) {
         Ok(map) => put_text(write_map(alloc, &map)?, page),
+        Err(error) => page.refusal(alloc, &error),
+    }
+}
+
+/// `upgrade TEXT`: the text of the upgrade of the map that is read, or why the map is refused.
+pub fn put_upgraded(alloc: Global, text: &str, page: &mut Page) -> Result<(), Trouble> {
+    match read_map(alloc, unescaped(alloc, text)?.items()) {
+        Ok(map) => put_text(write_map(alloc, &upgrade(alloc, &map)?)?, page),
         Err(error) => page.refusal(alloc, &error),
     }
 }

@@ -4,13 +4,13 @@ ghost use Rattle.mp_logic.specs.Truth.{weights_of};
 ghost use Rattle.mp_logic.specs.Weights.{weight_bound};
 
 use crate::calls::Calls;
-use crate::formats::{put_label_view, put_map, put_read, put_solution};
+use crate::formats::{put_label_view, put_map, put_read, put_solution, put_upgraded};
 use crate::logic::{
     put_cost, put_first_false, put_held, put_normalised, put_order, put_satisfied, repair,
 };
 use crate::page::Page;
 use crate::texts::{put_literal, put_natural, put_numbers, put_tokens};
-use crate::words::{parts, small};
+use crate::words::{parts, small, values};
 use case_text::{Trouble, unescaped};
 use mp_logic::{Assignment, Instance, Limits, WEIGHT_LIMIT};
 use mp_text::Bytes;
@@ -43,7 +43,10 @@ impl Calls for Given {
     ) -> Result<(), Trouble> {
         match name {
             "text" => self.set_text(alloc, text),
-            "values" => self.set_values(alloc, text),
+            "values" => {
+                self.values = values(alloc, text)?;
+                Ok(())
+            }
             "limit" => self.limit(text),
             "satisfied" => put_satisfied(alloc, self, text, page),
             "holds" => put_held(self, text, page),
@@ -68,6 +71,7 @@ fn call_plain(alloc: Global, name: &str, text: &str, page: &mut Page) -> Result<
         "compare" => put_order(alloc, text, page),
         "normalise" => put_normalised(alloc, text, page),
         "map" => put_map(alloc, text, page),
+        "upgrade" => put_upgraded(alloc, text, page),
         "solution" => put_solution(alloc, text, page),
         _ => Err(Trouble::Line),
     }
@@ -90,15 +94,6 @@ impl Given {
             "weight" => self.limits.weight = u128::from(most),
             "inner" => self.limits.inner = most,
             _ => return Err(Trouble::Line),
-        }
-        Ok(())
-    }
-
-    // `values 01..`
-    fn set_values(&mut self, alloc: Global, text: &str) -> Result<(), Trouble> {
-        self.values = Assignment::new(alloc);
-        for digit in text.as_bytes() {
-            self.values.push(*digit == b'1')?;
         }
         Ok(())
     }

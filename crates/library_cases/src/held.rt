@@ -4,6 +4,7 @@ use crate::calls::Calls;
 use crate::draws::{put_digest, put_drawn_line};
 use crate::given::Given;
 use crate::page::Page;
+use crate::probes::probe_line;
 use crate::stores::{fix_line, handed_on, put_occurrences, put_signature, run_line, show};
 use case_text::Trouble;
 use mp_labels::label;
@@ -90,6 +91,7 @@ fn call_stored(
         "signature" => put_signature(store, text, page),
         "fix" => fix_line(alloc, store, text),
         "technique" => run_line(alloc, store, text, page),
+        "probe" => probe_line(alloc, store, text, page),
         _ => Err(Trouble::Line),
     }
 }

@@ -13,6 +13,7 @@ mod given;
 mod held;
 mod logic;
 mod page;
+mod probes;
 mod stores;
 mod texts;
 mod words;

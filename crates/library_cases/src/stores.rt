@@ -7,9 +7,11 @@ use case_text::{Trouble, number};
 use mp_logic::{Clause, Limits, Lit, NoMemory};
 use mp_store::{Ending, Ran, Rewrite, Store};
 use std::alloc::Global;
+use t_amo::at_most_ones;
 use t_blocked::blocked;
 use t_elim::eliminate;
 use t_equiv::equivalences;
+use t_failed::{failed, pairs};
 use t_labels::{covered, group_covered};
 use t_matching::{binary_cores, matched};
 use t_subsume::{strengthen, subsume};
@@ -151,6 +153,9 @@ enum Technique {
     GroupCovered,
     Matched,
     BinaryCores,
+    AtMostOnes,
+    Failed,
+    Pairs,
 }
 
 fn technique_of(letter: &str) -> Result<Technique, Trouble> {
@@ -165,6 +170,9 @@ fn technique_of(letter: &str) -> Result<Technique, Trouble> {
         "g" => Ok(Technique::GroupCovered),
         "m" => Ok(Technique::Matched),
         "c" => Ok(Technique::BinaryCores),
+        "G" => Ok(Technique::AtMostOnes),
+        "f" => Ok(Technique::Failed),
+        "p" => Ok(Technique::Pairs),
         _ => Err(Trouble::Line),
     }
 }
@@ -188,6 +196,9 @@ fn call(
         Technique::GroupCovered => group_covered(alloc, store, budget),
         Technique::Matched => matched(alloc, store, budget),
         Technique::BinaryCores => binary_cores(alloc, store, budget),
+        Technique::AtMostOnes => at_most_ones(alloc, store, budget),
+        Technique::Failed => failed(alloc, store, budget),
+        Technique::Pairs => pairs(alloc, store, budget),
     }
 }
 

@@ -1,7 +1,7 @@
 //! What stands in a line behind its key.
 
 use case_text::Trouble;
-use mp_logic::{Clause, Lit};
+use mp_logic::{Assignment, Clause, Lit};
 use std::alloc::Global;
 
 /// The two parts of a text before and behind the first such sign.
@@ -29,6 +29,15 @@ pub fn clause(alloc: Global, text: &str) -> Result<Clause, Trouble> {
     let mut made = Clause::new(alloc);
     for word in text.split_ascii_whitespace() {
         made.push(literal(word)?)?;
+    }
+    Ok(made)
+}
+
+/// An assignment: a digit for each variable, 1 where it is true.
+pub fn values(alloc: Global, text: &str) -> Result<Assignment, Trouble> {
+    let mut made = Assignment::new(alloc);
+    for digit in text.as_bytes() {
+        made.push(*digit == b'1')?;
     }
     Ok(made)
 }

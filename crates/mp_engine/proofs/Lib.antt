@@ -1,5 +1,6 @@
 pub mod Orders
 pub mod Weights
+pub mod Asked
 pub mod Stepped
 pub mod Sweeps
 pub mod Rounds
@@ -16,4 +17,9 @@ pub mod Reordered
 pub mod AlikeSteps
 pub mod AlikeLabels
 pub mod AlikeGroups
+pub mod AlikeModels
+pub mod AlikeLists
+pub mod AlikePairs
+pub mod AlikeFailed
+pub mod AlikeProbes
 pub mod Moved

@@ -20,7 +20,8 @@ use Rattle.mp_engine.specs.declared.done.StageLine.{StageLine}
 use Rattle.mp_engine.specs.declared.done.Close.{Close}
 use Rattle.mp_engine.specs.declared.done.Close.TheVariants.{Single}
 use Rattle.mp_engine.specs.declared.done.Done.{Done}
-use Rattle.mp_engine.specs.Letters.{Kind, kind_of, IsHardened, end_state_of, HasEndState}
+use Rattle.t_probe.specs.Hardening.{IsHardened}
+use Rattle.mp_engine.specs.Letters.{Kind, kind_of, end_state_of, HasEndState}
 use Rattle.mp_engine.specs.Stages.{IsStage, IsNothing, IsStageThen, IsSequence, counts_of}
 use Rattle.mp_engine.specs.Runs.{IsLoop, IsGroup, IsRun, IsDone}
 use Rattle.mp_engine.specs.Runs.{refuted as loop_refuted_at, settles as loop_settles_by, stops as loop_stops_by, goes_on as loop_goes_on}

@@ -18,7 +18,8 @@ use Rattle.mp_engine.specs.declared.done.StageEnding.TheVariants as endings
 use Rattle.mp_engine.specs.declared.done.StageLine.{StageLine}
 use Rattle.mp_engine.specs.declared.done.Close.{Close}
 use Rattle.mp_engine.specs.declared.done.Close.TheVariants.{Settled, Unsettled, Single, Refuted}
-use Rattle.mp_engine.specs.Letters.{Kind, turns, asks, hardens, unbuilt, kind_of, IsHardened, end_state_of, HasEndState}
+use Rattle.t_probe.specs.Hardening.{IsHardened}
+use Rattle.mp_engine.specs.Letters.{Kind, turns, asks, hardens, kind_of, end_state_of, HasEndState}
 use Rattle.mp_engine.specs.Stages.{IsRefuted, IsNoLarger, IsEnding, IsNothing, IsStageThen, IsSequence, counts_of}
 use Rattle.mp_engine.specs.Runs.{is_done, all_done, IsRound, IsLoop, IsGroup, IsRun}
 use Rattle.mp_engine.specs.Runs.{refuted as loop_refuted_at, settles as loop_settles_by, stops as loop_stops_by, goes_on as loop_goes_on}
@@ -116,7 +117,6 @@ ending_fits (hardens Leaves) budget inner s t endings.Finished e d h = absurd (n
 ending_fits (hardens Leaves) budget inner s t endings.Spent e d h = absurd (true≢false (sym d))
 ending_fits (hardens Leaves) budget inner s t endings.NoRoom e d h = absurd (true≢false (sym d))
 ending_fits (hardens Leaves) budget inner s t (endings.Bound n) e d h = inr (λ v k. k, λ q. cc)
-ending_fits unbuilt budget inner s t ending e d h = absurd h
 
 pub ending_bound : (kind : Kind) (budget : Option ℕ) (inner : ℕ) (s t : State) (ending : StageEnding) → IsEnding kind budget inner s t ending → IsBound t (bound_of ending)
 ending_bound kind budget inner s t endings.Finished h n q = cc
@@ -125,7 +125,6 @@ ending_bound kind budget inner s t endings.NoRoom h n q = cc
 ending_bound (turns technique) budget inner s t (endings.Bound m) h n q = absurd h
 ending_bound (asks E) budget inner s t (endings.Bound m) h n q = absurd h
 ending_bound (hardens Leaves) budget inner s t (endings.Bound m) (u, e, k) n q = let z : n ≡ m = cc in (u, z ∙ e, k)
-ending_bound unbuilt budget inner s t (endings.Bound m) h n q = absurd h
 
 -- what holds of a state at which stages ran without a change
 record IsRest (stages : List Stage) (s : State) (lines : List StageLine) : Type 0 where

@@ -11,7 +11,7 @@ use Rattle.mp_store.specs.declared.ran.Ending.TheVariants as ends
 use Rattle.mp_script.specs.declared.scripts.Stage.{Stage}
 use Rattle.mp_engine.specs.declared.done.StageEnding.{StageEnding}
 use Rattle.mp_engine.specs.Bounds.{IsCounted}
-use Rattle.mp_engine.specs.Letters.{Kind, turns, asks, hardens, unbuilt, kind_of, leaves_alone}
+use Rattle.mp_engine.specs.Letters.{Kind, turns, asks, hardens, kind_of, leaves_alone}
 use Rattle.mp_engine.specs.Stages.{IsRefuted, IsNoLarger, IsTurnEnding, IsEnding}
 use Rattle.mp_engine.specs.Stores.{ending_of, HasStepped, Moves, RunsStage}
 
@@ -51,7 +51,6 @@ stepped (turns technique) budget old new ending changed (run, (ran, answer, e, c
 }
 stepped (asks asking) budget old new ending changed (run, change, e) = record { run = run; change = change; ends = e }
 stepped (hardens Leaves) budget old new ending changed (run, change, e) = record { run = run; change = change; ends = e }
-stepped unbuilt budget old new ending changed h = absurd h
 
 pub runs_stage : (stage : Stage) (old new : Held) (ending : StageEnding) (changed : Bool) → IsStore new → IsCounted (labelled_of new)
     → HasStepped (kind_of stage.letter) stage.budget old new ending changed → RunsStage stage old new ending changed

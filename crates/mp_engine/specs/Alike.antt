@@ -1,5 +1,5 @@
 -- States that differ in nothing but the numbers of their variables and the order of their clauses and costs.
-use Rattle.std.specs.Prelude.{◌≡◌, ◌⊎◌, ◌<◌, ℕ, List, Contains, map}
+use Rattle.std.specs.Prelude.{◌≡◌, ◌⊎◌, ◌<◌, ◌≤◌, ℕ, List, Contains, map}
 use Rattle.std.specs.List.Sorted.{IsPermutation}
 use Rattle.mp_logic.specs.Literal.{Literal}
 use Rattle.mp_logic.specs.Keeping.{State}
@@ -19,10 +19,11 @@ numbered number l = record l { variable = number l.variable }
 abbrev pub numbered_cost : (ℕ → ℕ) → Cost → Cost
 numbered_cost number p = record p { lit = numbered number p.lit }
 
--- The second state is the first one under new numbers for its variables, which rise as the variables do, its clauses and its
--- costs in any order.
+-- The second state is the first one under new numbers for its variables, from 1, which rise as the variables do, its clauses
+-- and its costs in any order.
 pub record IsAlike (s t : State) : Type 0 where
   pub number : ℕ → ℕ
+  pub from_one : (v : ℕ) → Uses s v → 1 ≤ number v
   pub rises : (v w : ℕ) → Uses s v → Uses s w → v < w → number v < number w
   pub hard : IsPermutation (map (map (numbered number)) s.hard) t.hard
   pub costs : IsPermutation (map (numbered_cost number) s.costs) t.costs

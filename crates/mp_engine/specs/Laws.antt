@@ -11,7 +11,7 @@ use Rattle.mp_script.specs.declared.scripts.Rounds.TheVariants.{Once, Settle, At
 use Rattle.mp_script.specs.declared.scripts.Group.{Group}
 use Rattle.mp_script.specs.Courses.{letters_of, rounds_of, IsCourseOf}
 use Rattle.mp_script.specs.Grammar.{IsScriptOf}
-use Rattle.mp_engine.specs.Stores.{HasRounds, IsBuilt, CanRun}
+use Rattle.mp_engine.specs.Stores.{HasRounds, CanRun}
 use Rattle.mp_engine.specs.declared.done.Close.TheVariants.{Settled, Unsettled, Single, Refuted}
 use Rattle.mp_engine.specs.declared.done.Done.{Done}
 use Rattle.mp_engine.specs.declared.done.StageEnding.{StageEnding}
@@ -140,6 +140,6 @@ abbrev pub RunsAreCourses : Type 0
 RunsAreCourses = (inner : ℕ) (script : List Group) (s : State) (done : Done) → ((group : Group) → Contains script group → HasRounds group.rounds) → IsDone inner script s done
     → (rest : List Letter) × IsCourseOf script (map (λ line. line.letter) done.stages ++ rest) × ((IsRefuted done.labelled → ⊥) → rest ≡ [])
 
--- the law: a script that a text gives can run where its letters are built
-abbrev pub BuiltScriptsCanRun : Type 0
-BuiltScriptsCanRun = (text : List ℕ) (script : List Group) → IsScriptOf text script → IsBuilt script → CanRun script
+-- the law: a script that a text gives can run
+abbrev pub ScriptsCanRun : Type 0
+ScriptsCanRun = (text : List ℕ) (script : List Group) → IsScriptOf text script → CanRun script

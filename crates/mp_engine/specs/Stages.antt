@@ -13,16 +13,21 @@ use Rattle.mp_script.specs.declared.scripts.Stage.{Stage}
 use Rattle.mp_engine.specs.declared.done.StageEnding.{StageEnding}
 use Rattle.mp_engine.specs.declared.done.StageEnding.TheVariants.{Finished, Spent, NoRoom, Bound}
 use Rattle.mp_engine.specs.declared.done.StageLine.{StageLine}
-use Rattle.mp_engine.specs.Letters.{Kind, turns, asks, hardens, unbuilt, kind_of, leaves_alone, IsHardened}
+use Rattle.t_probe.specs.Hardening.{IsHardened}
+use Rattle.mp_engine.specs.Letters.{Kind, turns, asks, hardens, kind_of, leaves_alone}
 
 -- some clause is empty
 abbrev pub IsRefuted : State → Type 0
 IsRefuted s = has_empty s.hard ≡ true
 
+-- how many clauses a solver may learn for one question: 1,000 where the script gives no number
+abbrev pub learning_budget : Option ℕ → ℕ
+learning_budget None = 1000
+learning_budget (Some b) = b
+
 -- as many clauses as the budget were learnt from the hard clauses
 abbrev pub IsExhausted : Option ℕ → State → Type 0
-IsExhausted None t = (learnt : List (List Literal)) × (length learnt ≡ 1000) × IsLearnt t.hard learnt
-IsExhausted (Some b) t = (learnt : List (List Literal)) × (length learnt ≡ b) × IsLearnt t.hard learnt
+IsExhausted budget t = (learnt : List (List Literal)) × (length learnt ≡ learning_budget budget) × IsLearnt t.hard learnt
 
 -- what an ending of a technique that rewrites by turns says
 abbrev pub IsTurnEnding : Technique → Option ℕ → ℕ → State → State → StageEnding → Type 0
@@ -49,7 +54,6 @@ abbrev pub IsEnding : Kind → Option ℕ → ℕ → State → State → StageE
 IsEnding (turns technique) budget inner s t ending = IsTurnEnding technique budget inner s t ending
 IsEnding (asks asking) budget inner s t ending = IsAskEnding asking.HasEndState budget t ending
 IsEnding (hardens Leaves) budget inner s t ending = IsHardenEnding budget t ending
-IsEnding unbuilt budget inner s t ending = ⊥
 
 -- the state is the other one, or refuted, or smaller
 abbrev pub IsNoLarger : State → State → Type 0

@@ -1,5 +1,5 @@
 -- What the engine's functions leave of a store and of the lines so far.
-use Rattle.std.specs.Prelude.{◌≡◌, ◌≢◌, ◌⊎◌, ℕ, Bool, true, false, List, All, ◌++◌, drop, Option, Some}
+use Rattle.std.specs.Prelude.{◌≡◌, ◌≢◌, ◌⊎◌, ℕ, ◌+◌, Bool, true, false, List, All, ◌++◌, drop, Option, Some}
 use Rattle.mp_logic.specs.Keeping.{State}
 use Rattle.mp_logic.specs.declared.instances.Repair.{Repair}
 use Rattle.mp_store.specs.Held.{Held, labelled_of}
@@ -9,17 +9,20 @@ use Rattle.mp_store.specs.Techniques.{IsRun as IsTechniqueRun, IsChange, IsAnswe
 use Rattle.mp_store.specs.declared.ran.Ran.{Ran}
 use Rattle.mp_store.specs.declared.ran.Ending.{Ending}
 use Rattle.mp_store.specs.declared.ran.Ending.TheVariants as ends
+use Rattle.t_probe.specs.declared.probed.ProbeEnding.{ProbeEnding}
+use Rattle.t_probe.specs.declared.probed.ProbeEnding.TheVariants as probes
 use Rattle.mp_script.specs.declared.scripts.Stage.{Stage}
 use Rattle.mp_script.specs.declared.scripts.Rounds.{Rounds}
 use Rattle.mp_script.specs.declared.scripts.Rounds.TheVariants.{Once, Settle, At}
 use Rattle.mp_script.specs.declared.scripts.Group.{Group}
 use Rattle.mp_engine.specs.declared.done.StageEnding.{StageEnding}
-use Rattle.mp_engine.specs.declared.done.StageEnding.TheVariants.{Finished, Spent, NoRoom}
+use Rattle.mp_engine.specs.declared.done.StageEnding.TheVariants.{Finished, Spent, NoRoom, Bound}
 use Rattle.mp_engine.specs.declared.done.StageLine.{StageLine}
 use Rattle.mp_engine.specs.declared.done.Close.{Close}
 use Rattle.mp_engine.specs.declared.done.Close.TheVariants.{Single}
 use Rattle.mp_engine.specs.Bounds.{IsCounted}
-use Rattle.mp_engine.specs.Letters.{Kind, turns, asks, hardens, unbuilt, is_built}
+use Rattle.mp_script.specs.Grammar.{IsStageInRange}
+use Rattle.mp_engine.specs.Letters.{Kind, turns, asks, hardens}
 use Rattle.mp_engine.specs.Stages.{IsRefuted, IsAskEnding, IsHardenEnding, IsStage, IsSequence}
 use Rattle.mp_engine.specs.Runs.{IsLoop, IsGroup, IsRun, all_done}
 
@@ -29,6 +32,12 @@ ending_of ends.Finished = Finished
 ending_of ends.Spent = Spent
 ending_of ends.NoRoom = NoRoom
 
+-- how a stage ends whose technique asks a solver; a bound is put on the offset
+abbrev pub asked_ending_of : ℕ → ProbeEnding → StageEnding
+asked_ending_of offset probes.Finished = Finished
+asked_ending_of offset (probes.Spent query learnt) = Spent
+asked_ending_of offset (probes.Bound u) = Bound (offset + u)
+
 -- what the call of a letter's technique says
 abbrev pub HasStepped : Kind → Option ℕ → Held → Held → StageEnding → Bool → Type 0
 HasStepped (turns technique) budget old new ending changed =
@@ -37,7 +46,6 @@ HasStepped (asks asking) budget old new ending changed =
     IsTechniqueRun asking.LeavesAlone old new × IsChange changed old new × IsAskEnding asking.HasEndState budget (labelled_of new) ending
 HasStepped (hardens Leaves) budget old new ending changed =
     IsTechniqueRun Leaves old new × IsChange changed old new × IsHardenEnding budget (labelled_of new) ending
-HasStepped unbuilt budget old new ending changed = ⊥
 
 -- whether something changed, and then, where the state isn't refuted, it is smaller, and its counts are of 64 bits
 abbrev pub Moves : Bool → State → State → Type 0
@@ -102,8 +110,9 @@ pub record IsRunning (script : List Group) (place : ℕ) (old now : Held) (furth
   pub inner_is : now.inner ≡ old.inner
   pub goes_on : (last : Close) (more : List StageLine) (t : State) (rs : List Repair) → IsRun old.inner (drop place script) close last (labelled_of now) more t rs → IsRun old.inner script Single last (labelled_of old) (further ++ more) t (added ++ rs)
 
-abbrev pub AreBuilt : List Stage → Type 0
-AreBuilt stages = All (λ stage. is_built stage.letter ≡ true) stages
+-- each budget is in the range of its letter
+abbrev pub AreInRange : List Stage → Type 0
+AreInRange stages = All IsStageInRange stages
 
 -- a loop with a number of rounds has at least one
 abbrev pub HasRounds : Rounds → Type 0
@@ -111,10 +120,6 @@ HasRounds Once = Unit {0}
 HasRounds Settle = Unit {0}
 HasRounds (At n) = n ≢ 0
 
--- each letter of the script is built
-abbrev pub IsBuilt : List Group → Type 0
-IsBuilt script = All (λ group. AreBuilt group.stages) script
-
--- each letter is built, and loops have rounds
+-- budgets are in their ranges, and loops have rounds
 abbrev pub CanRun : List Group → Type 0
-CanRun script = All (λ group. AreBuilt group.stages × HasRounds group.rounds) script
+CanRun script = All (λ group. AreInRange group.stages × HasRounds group.rounds) script

@@ -1,7 +1,7 @@
 //! Laws of runs, each the contract of a function that does nothing.
 ghost use Rattle.mp_engine.specs.Alike.{CountsMove, EndStatesMove};
 ghost use Rattle.mp_engine.specs.LogText.{LogTellsClose};
-ghost use Rattle.mp_engine.specs.Laws.{BoundsAreReached, BuiltScriptsCanRun, LastLetterHasEndState, LastLineIsLast, LinesHaveStages, NoGroupIsSingle, RefutedIsExact, RunsAreCourses, RunsKeep, SettledIsStanding, SettledLoopsHaveEndStates, SingleIsExact, UnsettledAfterRounds, UnsettledIsStanding};
+ghost use Rattle.mp_engine.specs.Laws.{BoundsAreReached, LastLetterHasEndState, LastLineIsLast, LinesHaveStages, NoGroupIsSingle, RefutedIsExact, RunsAreCourses, RunsKeep, ScriptsCanRun, SettledIsStanding, SettledLoopsHaveEndStates, SingleIsExact, UnsettledAfterRounds, UnsettledIsStanding};
 
 use mp_script::scripts_are_in_range;
 
@@ -75,9 +75,9 @@ pub fn log_tells_close()
     ensures { LogTellsClose }
 {}
 
-/// A script that a text gives can run where its letters are built.
-pub fn built_scripts_can_run()
-    ensures { BuiltScriptsCanRun }
+/// A script that a text gives can run.
+pub fn scripts_can_run()
+    ensures { ScriptsCanRun }
 {
     scripts_are_in_range()
 }

@@ -1,17 +1,26 @@
-ghost use Rattle.std.specs.Prelude.{◌≡◌, true, false, IfOk};
-ghost use Rattle.mp_engine.specs.Letters.{is_built, kind_of};
-ghost use Rattle.mp_engine.specs.Stores.{ending_of, HasStepped};
+ghost use Rattle.std.specs.Prelude.{◌≡◌, ◌+◌, ◌≤◌, ℕ, Some, false, IfOk};
+ghost use Rattle.mp_script.specs.Grammar.{IsStageInRange};
+ghost use Rattle.mp_store.specs.Held.{labelled_of};
+ghost use Rattle.t_probe.specs.Hardening.{IsHardened};
+ghost use Rattle.t_probe.specs.Oracles.{IsSound};
+ghost use Rattle.mp_engine.specs.Letters.{kind_of};
+ghost use Rattle.mp_engine.specs.Stages.{learning_budget};
+ghost use Rattle.mp_engine.specs.Stores.{asked_ending_of, ending_of, HasStepped};
 
 use crate::done::StageEnding;
-use mp_logic::NoMemory;
+use core_solver::{Query, Verdict};
+use mp_logic::{NoMemory, Weight};
 use mp_script::{Letter, Stage};
 use mp_store::{Ending, Ran, Store};
 use std::alloc::Global;
+use t_amo::at_most_ones;
 use t_blocked::blocked;
 use t_elim::eliminate;
 use t_equiv::equivalences;
+use t_failed::{failed, pairs};
 use t_labels::{covered, group_covered};
 use t_matching::{binary_cores, matched};
+use t_probe::{Oracle, ProbeEnding, Probed, harden, pair_cores, trim};
 use t_subsume::{strengthen, subsume};
 use t_units::units;
 
@@ -38,14 +47,60 @@ fn turned(ran: Ran) -> Step
     }
 }
 
+/// What a model costs that costs so much without the offset.
+fn with_offset(cost: Weight, store: &Store) -> Weight
+    requires { IsHardened cost (labelled_of store.now) }
+    ensures { result ≡ (labelled_of store.now).offset + cost }
+{
+    // what holds of each store says that the offset with all weights is in range
+    let _ = store.vars();
+    store.offset() + cost
+}
+
+/// What a technique that asks a solver answered.
+fn asked(probed: Probed, store: &Store) -> Step
+    requires { (u : ℕ) → probed.ending ≡ ProbeEnding.Bound u → IsHardened u (labelled_of store.now) }
+    ensures ending { result.ending ≡ asked_ending_of (labelled_of store.now).offset probed.ending }
+    ensures changed { result.changed ≡ probed.changed }
+{
+    let ending = match probed.ending {
+        ProbeEnding::Finished => StageEnding::Finished,
+        ProbeEnding::Spent { .. } => StageEnding::Spent,
+        ProbeEnding::Bound(cost) => StageEnding::Bound(with_offset(cost, store)),
+    };
+    Step {
+        ending,
+        changed: probed.changed,
+    }
+}
+
+/// How many clauses a solver may learn for one question: 1,000 where the script gives no number.
+fn learning_budget(budget: Option<u64>) -> u32
+    requires { (n : ℕ) → budget ≡ Some n → n ≤ 1000000 }
+    ensures { result ≡ learning_budget budget }
+{
+    match budget {
+        Some(clauses) => clauses as u32,
+        None => 1_000,
+    }
+}
+
 /// Calls the technique of the stage's letter.
-pub fn run_letter(alloc: Global, store: &mut Store, stage: Stage) -> Result<Step, NoMemory>
+pub fn run_letter<F: Fn(Global, &Query) -> Result<Verdict, NoMemory>>(
+    alloc: Global,
+    store: &mut Store,
+    stage: Stage,
+    oracle: &Oracle<F>,
+) -> Result<Step, NoMemory>
+    requires oracle { IsSound F.pre F.post oracle.now }
     requires unrefuted { store.old.refuted ≡ false }
-    requires built { is_built stage.letter ≡ true }
+    requires budget { IsStageInRange stage }
     ensures { IfOk result (λ step. HasStepped (kind_of stage.letter) stage.budget store.old store.new step.ending step.changed) }
 {
     match stage.letter {
         Letter::U => Ok(turned(units(alloc, store, stage.budget)?)),
+        Letter::F => Ok(turned(failed(alloc, store, stage.budget)?)),
+        Letter::P => Ok(turned(pairs(alloc, store, stage.budget)?)),
         Letter::B => Ok(turned(blocked(alloc, store, stage.budget)?)),
         Letter::S => Ok(turned(subsume(alloc, store, stage.budget)?)),
         Letter::R => Ok(turned(strengthen(alloc, store, stage.budget)?)),
@@ -55,25 +110,18 @@ pub fn run_letter(alloc: Global, store: &mut Store, stage: Stage) -> Result<Step
         Letter::Gr => Ok(turned(group_covered(alloc, store, stage.budget)?)),
         Letter::M => Ok(turned(matched(alloc, store, stage.budget)?)),
         Letter::C => Ok(turned(binary_cores(alloc, store, stage.budget)?)),
-        _ => unreachable!(),
+        Letter::Amo => Ok(turned(at_most_ones(alloc, store, stage.budget)?)),
+        Letter::T => {
+            let probed = trim(alloc, store, oracle, learning_budget(stage.budget))?;
+            Ok(asked(probed, store))
+        }
+        Letter::K => {
+            let probed = pair_cores(alloc, store, oracle, learning_budget(stage.budget))?;
+            Ok(asked(probed, store))
+        }
+        Letter::H => {
+            let probed = harden(alloc, store, oracle, learning_budget(stage.budget))?;
+            Ok(asked(probed, store))
+        }
     }
-}
-
-/// Whether the technique of the letter is built.
-pub fn is_built(letter: Letter) -> bool
-    ensures { result ≡ is_built letter }
-{
-    matches!(
-        letter,
-        Letter::U
-            | Letter::B
-            | Letter::S
-            | Letter::R
-            | Letter::V
-            | Letter::E
-            | Letter::L
-            | Letter::Gr
-            | Letter::M
-            | Letter::C
-    )
 }

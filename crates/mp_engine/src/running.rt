@@ -3,27 +3,33 @@ ghost use Rattle.mp_logic.specs.Keeping.{Keeps};
 ghost use Rattle.mp_logic.specs.Labelled.{IsProper};
 ghost use Rattle.mp_store.specs.Held.{labelled_of};
 ghost use Rattle.mp_clauses.specs.Slots.{has_empty};
+ghost use Rattle.t_probe.specs.Oracles.{IsSound};
 ghost use Rattle.mp_engine.specs.Runs.{IsDone};
 ghost use Rattle.mp_engine.specs.Stores.{CanRun};
 ghost use Rattle.mp_engine.specs.declared.done.Close.TheVariants.{Refuted};
 
 use crate::done::{Close, Done, StageLines};
 use crate::groups::run_group;
+use core_solver::{Query, Verdict};
 use mp_labels::Labelled;
 use mp_logic::{Copied, Limits, ListOf, NoMemory};
 use mp_script::Script;
 use mp_store::Store;
 use std::alloc::Global;
+use t_probe::Oracle;
 
 /// Runs a script on a labelled state: what is left of it, the repairs that bring models back, and what each stage did. The
-/// state may have at most `limits.inner` variables. Each technique of the script is built, and its numbers are in their ranges,
-/// as those of a script that `parse` answers are.
-pub fn run(
+/// state may have at most `limits.inner` variables. The budgets and numbers of rounds of the script are in their ranges, as
+/// those of a script that `parse` answers are. Trimming, pair cores and hardening put their questions to the oracle. Its one
+/// error is want of memory.
+pub fn run<F: Fn(Global, &Query) -> Result<Verdict, NoMemory>>(
     alloc: Global,
     labelled: &Labelled,
     limits: &Limits,
     script: &Script,
+    oracle: &Oracle<F>,
 ) -> Result<Done, NoMemory>
+    requires oracle { IsSound F.pre F.post oracle.now }
     requires room { labelled.now.vars ≤ limits.now.inner }
     requires script { CanRun script.now }
     ensures run { IfOk result (λ done. IsDone limits.now.inner script.now labelled.now done) }
@@ -31,16 +37,18 @@ pub fn run(
     ensures vars { IfOk result (λ done. done.labelled.vars ≤ limits.now.inner) }
     ensures proper { IfOk result (λ done. All (IsProper done.labelled.vars) done.repairs) }
 {
-    run_from_labelled(alloc, labelled.copy(alloc)?, limits, script)
+    run_from_labelled(alloc, labelled.copy(alloc)?, limits, script, oracle)
 }
 
 /// The same; it lets go of the state as it takes it in.
-pub fn run_from_labelled(
+pub fn run_from_labelled<F: Fn(Global, &Query) -> Result<Verdict, NoMemory>>(
     alloc: Global,
     labelled: Labelled,
     limits: &Limits,
     script: &Script,
+    oracle: &Oracle<F>,
 ) -> Result<Done, NoMemory>
+    requires oracle { IsSound F.pre F.post oracle.now }
     requires room { labelled.vars ≤ limits.now.inner }
     requires script { CanRun script.now }
     ensures run { IfOk result (λ done. IsDone limits.now.inner script.now labelled done) }
@@ -54,7 +62,7 @@ pub fn run_from_labelled(
     let mut lines = ListOf::new(alloc);
     let mut close = Close::Single;
     for group in script.items() {
-        close = run_group(alloc, &mut store, group, &mut lines)?;
+        close = run_group(alloc, &mut store, group, oracle, &mut lines)?;
     }
     finish(alloc, store, lines, close)
 }

@@ -1,5 +1,8 @@
+pub mod Gathering
+pub mod Joins
 pub mod Lines
 pub mod Marked
+pub mod Mending
 pub mod Numerals
 pub mod Pieces
 pub mod Rooms
@@ -7,5 +10,6 @@ pub mod Runs
 pub mod Spellings
 pub mod Stages
 pub mod Texts
+pub mod ToCome
 pub mod WholeTexts
 pub mod WordsRead

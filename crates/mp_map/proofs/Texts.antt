@@ -1,24 +1,27 @@
 -- The lines of a map's text, cut at line feeds and blanks.
-use Rattle.std.proofs.Common.{◌≡◌, ◌≤◌, ◌<◌, ℕ, Bool, true, false, not, cond, ◌&&◌, IsTrue, List, [], ◌∷◌, ◌++◌, All, length, map, codes, decimal, refl, ap, subst, ◌∙◌, arith, append_assoc, lit<}
+use Rattle.std.proofs.Common.{◌≡◌, ◌≤◌, ◌<◌, ℕ, Bool, true, false, not, cond, ◌&&◌, IsTrue, List, [], ◌∷◌, ◌++◌, All, length, map, codes, decimal, refl, ap, ◌∙◌, arith, append_assoc, lit<}
 use Rattle.std.specs.Prelude.{nat_eq, nat_lt, nat_le}
 use Rattle.std.specs.Char.{is_ascii_digit}
 use Rattle.std.specs.List.{onto_first, flat_map, join_with_byte, list_all}
 use Rattle.std.specs.Str.{all_ascii_digits}
 use Rattle.std.proofs.lemmas.Bool.{and_parts, and_from, false≢true, leb-true, eq-eqb, ne_eqb}
-use Rattle.std.proofs.lemmas.List.{append-nil}
 use Rattle.std.proofs.lemmas.List.Elements.{All-head, All-tail}
 use Rattle.std.proofs.lemmas.List.Splits.{slice_split-cons_yes, slice_split-cons_no}
 use Rattle.mp_logic.specs.Labelled.{IsProper, names_rise}
 use Rattle.mp_logic.specs.Literal.{Literal, IsUpTo}
 use Rattle.mp_logic.specs.declared.instances.Repair.{Repair}
+use Rattle.mp_map.specs.Entries.{repairs_in, repairs_of}
+use Rattle.mp_map.specs.declared.maps.Entry.{Entry}
 use Rattle.mp_map.specs.declared.maps.MapFile.{MapFile}
 use Rattle.mp_text.specs.Lines.{line_text}
 use Rattle.mp_text.specs.Writing.{literal_word, clause_words}
-use Rattle.mp_map.specs.Maps.{IsMap, map_lines, repair_words}
+use Rattle.mp_map.specs.Maps.{IsMap, entry_words, map_lines}
 use Rattle.mp_map.specs.Pieces.{pieces_at, is_empty}
 use Rattle.mp_map.specs.Reading.{words_in}
 use Rattle.mp_text.specs.Numbers.{greatest}
 use Rattle.mp_text.proofs.Spelled.{number_is_digits}
+use Rattle.mp_map.proofs.Joins.{entries_few}
+use Rattle.mp_map.proofs.Mending.{All-back, All-front, sets_within}
 
 -- no byte is this one
 abbrev pub lacks : ℕ → List ℕ → Bool
@@ -145,25 +148,38 @@ clause_filled : (c : List Literal) (rest : List (List ℕ)) → not (is_empty (c
 clause_filled [] rest = refl
 clause_filled (l ∷ c) rest = refl
 
-repair_is_line : (inner : ℕ) (r : Repair) → inner ≤ greatest → IsProper inner r → is_line (repair_words r) ≡ true
-repair_is_line inner r small h =
-    let second : list_all is_word (clause_words r.clause) ≡ true = subst (λ (ws : List (List ℕ)). list_all is_word ws ≡ true) (append-nil (clause_words r.clause)) (clause_are_words inner r.clause [] small h.clause_within refl) in
-    and_from (not (is_empty (repair_words r))) (list_all is_word (repair_words r)) (clause_filled r.sets (clause_words r.clause)) (clause_are_words inner r.sets (clause_words r.clause) small h.sets_within second)
+clauses_are_words : (inner : ℕ) (sets : List Literal) (cs : List (List Literal)) → inner ≤ greatest → All (IsProper inner) (map (λ c. let r : Repair = record { sets = sets; clause = c } in r) cs) → list_all is_word (flat_map clause_words cs) ≡ true
+clauses_are_words inner sets [] small h = refl
+clauses_are_words inner sets (c ∷ cs) small h =
+    let r : List Literal → Repair = λ c. record { sets = sets; clause = c } in
+    let own : IsProper inner (r c) = All-head (IsProper inner) (r c) (map r cs) h in
+    clause_are_words inner c (flat_map clause_words cs) small own.clause_within (clauses_are_words inner sets cs small (All-tail (IsProper inner) (r c) (map r cs) h))
 
-repairs_are_lines : (inner : ℕ) (rs : List Repair) (rest : List (List (List ℕ))) → inner ≤ greatest → All (IsProper inner) rs → list_all is_line rest ≡ true → list_all is_line (map repair_words rs ++ rest) ≡ true
-repairs_are_lines inner [] rest small h k = k
-repairs_are_lines inner (r ∷ rs) rest small h k =
-    and_from (is_line (repair_words r)) (list_all is_line (map repair_words rs ++ rest)) (repair_is_line inner r small (All-head (IsProper inner) r rs h)) (repairs_are_lines inner rs rest small (All-tail (IsProper inner) r rs h) k)
+entry_is_line : (inner : ℕ) (e : Entry) → inner ≤ greatest → All (IsUpTo inner) e.sets → All (IsProper inner) (repairs_in e) → is_line (entry_words e) ≡ true
+entry_is_line inner e small sets h =
+    and_from (not (is_empty (entry_words e))) (list_all is_word (entry_words e)) (clause_filled e.sets (flat_map clause_words e.clauses))
+    (clause_are_words inner e.sets (flat_map clause_words e.clauses) small sets (clauses_are_words inner e.sets e.clauses small h))
+
+entries_are_lines : (inner : ℕ) (es : List Entry) (rest : List (List (List ℕ))) → inner ≤ greatest → All (λ e. All (IsUpTo inner) e.sets) es → All (IsProper inner) (repairs_of es) → list_all is_line rest ≡ true
+    → list_all is_line (map entry_words es ++ rest) ≡ true
+entries_are_lines inner [] rest small sets h k = k
+entries_are_lines inner (e ∷ es) rest small sets h k =
+    let P : Entry → Type 0 = λ e. All (IsUpTo inner) e.sets in
+    and_from (is_line (entry_words e)) (list_all is_line (map entry_words es ++ rest))
+    (entry_is_line inner e small (All-head P e es sets) (All-front (IsProper inner) (repairs_in e) (repairs_of es) h))
+    (entries_are_lines inner es rest small (All-tail P e es sets) (All-back (IsProper inner) (repairs_in e) (repairs_of es) h) k)
 
 -- the lines of a valid map are lines
 pub map_good : (m : MapFile) → IsMap m → list_all is_line (map_lines m) ≡ true
 map_good m v =
     let small : m.inner ≤ greatest = omega (arith, v.inner) in
     let names : is_line (codes "names" ∷ map decimal m.names) ≡ true = names_are_words 0 m.inner m.names small v.names_rising in
-    let t7 : list_all is_line (map repair_words m.repairs ++ (codes "end" ∷ []) ∷ []) ≡ true = repairs_are_lines m.inner m.repairs ((codes "end" ∷ []) ∷ []) small v.repairs_proper refl in
-    let t6 = and_from _ _ (number_is_line (codes "repairs") (length m.repairs) refl (omega (arith, v.repairs_few))) t7 in
+    let t7 : list_all is_line (map entry_words m.repairs ++ (codes "end" ∷ []) ∷ []) ≡ true =
+    entries_are_lines m.inner m.repairs ((codes "end" ∷ []) ∷ []) small (sets_within m.version m.inner m.repairs v.entries_fit v.repairs_proper) v.repairs_proper refl in
+    let t6 = and_from _ _ (number_is_line (codes "repairs") (length m.repairs) refl (omega (arith, v.repairs_few, entries_few m.version m.repairs v.entries_fit))) t7 in
     let t5 = and_from _ _ names t6 in
     let t4 = and_from _ _ (number_is_line (codes "offset") m.offset refl (omega (arith, v.offset))) t5 in
     let t3 = and_from _ _ (number_is_line (codes "written") m.written refl (omega (arith, v.written, small))) t4 in
     let t2 = and_from _ _ (number_is_line (codes "inner") m.inner refl small) t3 in
-    and_from _ _ (number_is_line (codes "original") m.original refl (omega (arith, v.original))) t2
+    let t1 = and_from _ _ (number_is_line (codes "original") m.original refl (omega (arith, v.original))) t2 in
+    and_from _ _ (number_is_line (codes "maxpre-map") m.version refl (omega (arith, v.last_version))) t1

@@ -137,7 +137,7 @@ sound_on (q ∷ qs) t r n m v h =
     (p.0, p.1 ∙ ap (λ (v : List ℕ). v ++ rest) (text_step r u.0 t g) ∙ append_assoc (text_of (lines_of r)) (t ++ 10 ∷ []) rest ∙ ap (λ (v : List ℕ). text_of (lines_of r) ++ v) (append_assoc t (10 ∷ []) rest))
 
 begins_start : IsReader start
-begins_start = record { valid = bare_valid 0 0 (omega arith) (omega arith) (omega arith); facts = refl }
+begins_start = record { valid = bare_valid 1 0 0 (omega arith) (omega arith) (omega arith) (omega arith) (omega arith); facts = refl }
 
 pub read_sound : (text : List ℕ) (m : MapFile) → read_text text ≡ Ok m → IsMap m × (map_text m ≡ text)
 read_sound text m h =

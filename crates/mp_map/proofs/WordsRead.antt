@@ -1,12 +1,11 @@
 -- The words of a line are read as they are written.
-use Rattle.std.proofs.Common.{◌≡◌, ◌≢◌, ◌≤◌, ◌<◌, ℕ, zero, suc, Bool, true, false, not, cond, ◌&&◌, IsTrue, List, [], ◌∷◌, ◌++◌, length, map, get_or, codes, decimal, Option, Some, None, refl, ap, subst, sym, ◌∙◌, arith}
+use Rattle.std.proofs.Common.{◌≡◌, ◌≢◌, ◌≤◌, ◌<◌, ◌+◌, ℕ, zero, suc, Bool, true, false, not, cond, ◌&&◌, IsTrue, List, [], ◌∷◌, ◌++◌, All, length, map, get_or, codes, decimal, Option, Some, None, refl, ap, subst, sym, ◌∙◌, arith}
 use Rattle.std.specs.Prelude.{nat_eq, nat_lt, nat_le}
-use Rattle.std.specs.List.{AllByRecursion}
+use Rattle.std.specs.List.{AllByRecursion, flat_map, list_all}
 use Rattle.std.specs.Str.{bytes_eq}
-use Rattle.std.proofs.lemmas.Bool.{and_parts, and_from, false_from_ne_true, false≢true, leb-true, eqb-true, eq-eqb, ne_eqb}
+use Rattle.std.proofs.lemmas.Bool.{and_parts, and_from, false_from_ne_true, false≢true, leb-true, le-leb, eqb-true, eq-eqb, ne_eqb}
 use Rattle.std.proofs.Math.Dec.{eqb-suc-zero}
-use Rattle.std.proofs.lemmas.List.Elements.{recursion_from_All, All-from_recursion}
-use Rattle.std.proofs.lemmas.List.{append-nil}
+use Rattle.std.proofs.lemmas.List.Elements.{recursion_from_All, All-from_recursion, All-nil, All-cons, All-head, All-tail}
 use Rattle.std.proofs.lemmas.Option.{none-some}
 use Rattle.std.proofs.lemmas.Slice.Eq.{bytes_eq-Decides}
 use Rattle.mp_logic.specs.Labelled.{IsProper, names_rise}
@@ -16,9 +15,12 @@ use Rattle.mp_logic.specs.declared.instances.Repair.{Repair}
 use Rattle.mp_text.specs.Numbers.{greatest}
 use Rattle.mp_text.proofs.Spelled.{first_digit}
 use Rattle.mp_text.specs.Writing.{literal_word, clause_words}
-use Rattle.mp_map.specs.Maps.{repair_words}
+use Rattle.mp_map.specs.Entries.{fits_version, repairs_in}
+use Rattle.mp_map.specs.Maps.{entry_words, most_repairs}
+use Rattle.mp_map.specs.declared.maps.Entry.{Entry}
 use Rattle.mp_map.specs.Pieces.{is_empty}
-use Rattle.mp_map.specs.Reading.{exact_of, number_in, put_first, numbers_in, checked_names, names_in, signed, literal_in, put_literal, clause_in, checked_repair, repair_behind, repair_in}
+use Rattle.mp_map.specs.Reading.{exact_of, number_in, put_first, numbers_in, checked_names, names_in, signed, literal_in, put_literal, clause_in, put_into_first, clauses_in, is_entry, checked_entry, entry_behind, entry_in}
+use Rattle.mp_map.proofs.Joins.{Fits, some_clause}
 use Rattle.mp_map.proofs.Numerals.{found, exact_complete}
 
 pub if_some : {X : Type 0} (b : Bool) (o : Option X) (x : X) → cond b o None ≡ Some x → (b ≡ true) × (o ≡ Some x)
@@ -191,54 +193,155 @@ clause_complete most (l ∷ c) rest small h =
     ∙ ap (λ (o : Option Literal). put_literal o (clause_in most (clause_words c ++ rest))) (literal_complete most l small h.0)
     ∙ ap (put_literal (Some l)) (clause_complete most c rest small h.1)
 
--- repairs
+-- entries
 
 nonempty_from : {X : Type 0} (xs : List X) → not (is_empty xs) ≡ true → xs ≢ []
 nonempty_from [] h e = false≢true h
 nonempty_from (x ∷ xs) h e = cc
 
-empty_from : {X : Type 0} (xs : List X) → is_empty xs ≡ true → xs ≡ []
-empty_from [] h = refl
-empty_from (x ∷ xs) h = absurd (false≢true h)
-
 nonempty_to : {X : Type 0} (xs : List X) → xs ≢ [] → not (is_empty xs) ≡ true
 nonempty_to [] h = absurd (h refl)
 nonempty_to (x ∷ xs) h = refl
 
-checked_repair_some : (sets : List Literal) (o : Option (List Literal × List (List ℕ))) (r : Repair) → checked_repair sets o ≡ Some r
-    → (o ≡ Some (r.clause, [])) × (r.sets ≡ sets) × (sets ≢ []) × IsTrue (rises 0 sets) × IsTrue (rises 0 r.clause)
-checked_repair_some sets None r h = absurd (none-some r h)
-checked_repair_some sets (Some (clause, ws)) r h =
-    let made : Repair = record { sets = sets; clause = clause } in
-    let p = if_some (((is_empty ws && not (is_empty sets)) && rises 0 sets) && rises 0 clause) (Some made) r h in
-    let q = and_parts ((is_empty ws && not (is_empty sets)) && rises 0 sets) (rises 0 clause) p.0 in
-    let s = and_parts (is_empty ws && not (is_empty sets)) (rises 0 sets) q.0 in
-    let t = and_parts (is_empty ws) (not (is_empty sets)) s.0 in
-    let same : made ≡ r = (let e : Some made ≡ Some r = p.1 in cc) in
-    (ap (λ (vs : List (List ℕ)). Some (clause, vs)) (empty_from ws t.0) ∙ ap (λ (k : Repair). Some (k.clause, [])) same, ap (λ (k : Repair). k.sets) (sym same), nonempty_from sets t.1, s.1, subst (λ (k : Repair). IsTrue (rises 0 k.clause)) same q.1)
+-- all clauses of a line
 
-repair_parts : (most : ℕ) (o : Option (List Literal × List (List ℕ))) (r : Repair) → repair_behind most o ≡ Some r → (ws : List (List ℕ)) × (o ≡ Some (r.sets, ws)) × (checked_repair r.sets (clause_in most ws) ≡ Some r)
-repair_parts most None r h = absurd (none-some r h)
-repair_parts most (Some (sets, ws)) r h =
-    let same : r.sets ≡ sets = (checked_repair_some sets (clause_in most ws) r h).1 in
-    (ws, ap (λ (s : List Literal). Some (s, ws)) (sym same), subst (λ (s : List Literal). checked_repair s (clause_in most ws) ≡ Some r) (sym same) h)
+put_into_first_some : (o : Option Literal) (rest : Option (List (List Literal))) (cs : List (List Literal)) → put_into_first o rest ≡ Some cs
+    → (l : Literal) × (c : List Literal) × (ds : List (List Literal)) × (o ≡ Some l) × (rest ≡ Some (c ∷ ds)) × ((l ∷ c) ∷ ds ≡ cs)
+put_into_first_some None rest cs h = absurd (none-some cs h)
+put_into_first_some (Some l) None cs h = absurd (none-some cs h)
+put_into_first_some (Some l) (Some []) cs h = absurd (none-some cs h)
+put_into_first_some (Some l) (Some (c ∷ ds)) cs h = (l, c, ds, refl, refl, let e : Some ((l ∷ c) ∷ ds) ≡ Some cs = h in cc)
 
-pub repair_sound : (most : ℕ) (ws : List (List ℕ)) (r : Repair) → most ≤ greatest → repair_in most ws ≡ Some r → (ws ≡ repair_words r) × IsProper most r
-repair_sound most ws r small h =
-    let p = repair_parts most (clause_in most ws) r h in
-    let q = checked_repair_some r.sets (clause_in most p.0) r p.2 in
-    let first = clause_sound most ws r.sets p.0 small p.1 in
-    let second = clause_sound most p.0 r.clause [] small q.0 in
-    let tail : p.0 ≡ clause_words r.clause = second.0 ∙ append-nil (clause_words r.clause) in (
-      first.0 ∙ ap (λ (vs : List (List ℕ)). clause_words r.sets ++ vs) tail,
-      record { sets_normal = q.3; clause_normal = q.4; sets_some = q.2; sets_within = All-from_recursion (IsUpTo most) r.sets first.1; clause_within = All-from_recursion (IsUpTo most) r.clause second.1 },
-    )
+abbrev AreUpTo : ℕ → List (List Literal) → Type 0
+AreUpTo most cs = AllByRecursion (AllByRecursion (IsUpTo most)) cs
 
-pub repair_complete : (most : ℕ) (r : Repair) → most ≤ greatest → IsProper most r → repair_in most (repair_words r) ≡ Some r
-repair_complete most r small h =
-    let first = clause_complete most r.sets (clause_words r.clause) small (recursion_from_All (IsUpTo most) r.sets h.sets_within) in
-    let second : clause_in most (clause_words r.clause) ≡ Some (r.clause, []) = ap (clause_in most) (sym (append-nil (clause_words r.clause))) ∙ clause_complete most r.clause [] small (recursion_from_All (IsUpTo most) r.clause h.clause_within) in
-    ap (repair_behind most) first ∙ ap (checked_repair r.sets) second
-    ∙ ap (λ (t : Bool). cond t (Some r) None)
-    (and_from ((true && not (is_empty r.sets)) && rises 0 r.sets) (rises 0 r.clause)
-    (and_from (true && not (is_empty r.sets)) (rises 0 r.sets) (nonempty_to r.sets h.sets_some) h.sets_normal) h.clause_normal)
+clauses_sound : (most : ℕ) (ws : List (List ℕ)) (cs : List (List Literal)) → most ≤ greatest → clauses_in most ws ≡ Some cs → (ws ≡ flat_map clause_words cs) × AreUpTo most cs
+clauses_sound most [] cs small h =
+    let none : [] ≡ cs = (let e : Some [] ≡ Some cs = h in cc) in
+    (ap (flat_map clause_words) none, subst (AreUpTo most) none tt)
+clauses_sound most (w ∷ ws) cs small h =
+    let step : (t : Bool) → bytes_eq w (codes "0") ≡ t → (w ∷ ws ≡ flat_map clause_words cs) × AreUpTo most cs =
+    λ (t : Bool). elim t as (λ t. bytes_eq w (codes "0") ≡ t → (w ∷ ws ≡ flat_map clause_words cs) × AreUpTo most cs) [
+      | true ↦ λ e.
+          let k : put_first (Some []) (clauses_in most ws) ≡ Some cs = ap (λ (t : Bool). cond t (put_first (Some []) (clauses_in most ws)) (put_into_first (literal_in most w) (clauses_in most ws))) (sym e) ∙ h in
+          let p = put_first_some (Some []) (clauses_in most ws) cs k in
+          let others = clauses_sound most ws p.1 small p.3 in
+          let none : p.0 ≡ [] = (let f : Some [] ≡ Some p.0 = p.2 in cc) in
+          let whole : [] ∷ p.1 ≡ cs = ap (λ (c : List Literal). c ∷ p.1) (sym none) ∙ p.4 in
+          (ap (λ (v : List ℕ). v ∷ ws) ((bytes_eq-Decides w (codes "0")).0 e) ∙ ap (λ (vs : List (List ℕ)). codes "0" ∷ vs) others.0 ∙ ap (flat_map clause_words) whole, subst (AreUpTo most) whole (tt, others.1))
+      | false ↦ λ e.
+          let k : put_into_first (literal_in most w) (clauses_in most ws) ≡ Some cs = ap (λ (t : Bool). cond t (put_first (Some []) (clauses_in most ws)) (put_into_first (literal_in most w) (clauses_in most ws))) (sym e) ∙ h in
+          let p = put_into_first_some (literal_in most w) (clauses_in most ws) cs k in
+          let first = literal_sound most w p.0 small p.3 in
+          let others = clauses_sound most ws (p.1 ∷ p.2) small p.4 in
+          (ap (λ (v : List ℕ). v ∷ ws) first.0 ∙ ap (λ (vs : List (List ℕ)). literal_word p.0 ∷ vs) others.0 ∙ ap (flat_map clause_words) p.5, subst (AreUpTo most) p.5 ((first.1, others.1.0), others.1.1))
+    ] in
+    step (bytes_eq w (codes "0")) refl
+
+clauses_from : (most : ℕ) (c : List Literal) (rest : List (List ℕ)) (cs : List (List Literal)) → most ≤ greatest → AllByRecursion (IsUpTo most) c → clauses_in most rest ≡ Some cs → clauses_in most (clause_words c ++ rest) ≡ Some (c ∷ cs)
+clauses_from most [] rest cs small h k = ap (put_first (Some [])) k
+clauses_from most (l ∷ c) rest cs small h k =
+    let others : Option (List (List Literal)) = clauses_in most (clause_words c ++ rest) in
+    ap (λ (t : Bool). cond t (put_first (Some []) others) (put_into_first (literal_in most (literal_word l)) others)) (literal_apart most l small h.0)
+    ∙ ap (λ (o : Option Literal). put_into_first o others) (literal_complete most l small h.0)
+    ∙ ap (put_into_first (Some l)) (clauses_from most c rest cs small h.1 k)
+
+clauses_complete : (most : ℕ) (cs : List (List Literal)) → most ≤ greatest → AreUpTo most cs → clauses_in most (flat_map clause_words cs) ≡ Some cs
+clauses_complete most [] small h = refl
+clauses_complete most (c ∷ cs) small h = clauses_from most c (flat_map clause_words cs) cs small h.0 (clauses_complete most cs small h.1)
+
+-- what is checked of an entry
+
+record Stands (version least : ℕ) (sets : List Literal) (cs : List (List Literal)) : Type 0 where
+  some : not (is_empty sets) ≡ true
+  sets_normal : rises 0 sets ≡ true
+  normal : list_all (rises 0) cs ≡ true
+  fits : fits_version version (length cs) ≡ true
+  few : least + length cs ≤ most_repairs + 1
+
+stands_from : (version least : ℕ) (sets : List Literal) (cs : List (List Literal)) → is_entry version least sets cs ≡ true → Stands version least sets cs
+stands_from version least sets cs h =
+    let p = and_parts ((not (is_empty sets) && rises 0 sets) && list_all (rises 0) cs) (fits_version version (length cs) && nat_le (least + length cs) (most_repairs + 1)) h in
+    let q = and_parts (not (is_empty sets) && rises 0 sets) (list_all (rises 0) cs) p.0 in
+    let s = and_parts (not (is_empty sets)) (rises 0 sets) q.0 in
+    let t = and_parts (fits_version version (length cs)) (nat_le (least + length cs) (most_repairs + 1)) p.1 in
+    record { some = s.0; sets_normal = s.1; normal = q.1; fits = t.0; few = leb-true _ _ t.1 }
+
+stands_to : (version least : ℕ) (sets : List Literal) (cs : List (List Literal)) → Stands version least sets cs → is_entry version least sets cs ≡ true
+stands_to version least sets cs s =
+    and_from ((not (is_empty sets) && rises 0 sets) && list_all (rises 0) cs) (fits_version version (length cs) && nat_le (least + length cs) (most_repairs + 1))
+    (and_from (not (is_empty sets) && rises 0 sets) (list_all (rises 0) cs) (and_from (not (is_empty sets)) (rises 0 sets) s.some s.sets_normal) s.normal)
+    (and_from (fits_version version (length cs)) (nat_le (least + length cs) (most_repairs + 1)) s.fits (le-leb _ _ s.few))
+
+-- the repairs of an entry are proper where all its lists are
+
+abbrev repair_for : List Literal → List Literal → Repair
+repair_for sets c = record { sets = sets; clause = c }
+
+proper_from : (most : ℕ) (sets : List Literal) (cs : List (List Literal)) → sets ≢ [] → rises 0 sets ≡ true → AllByRecursion (IsUpTo most) sets → list_all (rises 0) cs ≡ true → AreUpTo most cs → All (IsProper most) (map (repair_for sets) cs)
+proper_from most sets [] some normal within all h = All-nil (IsProper most)
+proper_from most sets (c ∷ cs) some normal within all h =
+    let p = and_parts (rises 0 c) (list_all (rises 0) cs) all in
+    All-cons (IsProper most) (repair_for sets c) (map (repair_for sets) cs)
+    (record { sets_normal = normal; clause_normal = p.0; sets_some = some; sets_within = All-from_recursion (IsUpTo most) sets within; clause_within = All-from_recursion (IsUpTo most) c h.0 })
+    (proper_from most sets cs some normal within p.1 h.1)
+
+clauses_of : (most : ℕ) (sets : List Literal) (cs : List (List Literal)) → All (IsProper most) (map (repair_for sets) cs) → (list_all (rises 0) cs ≡ true) × AreUpTo most cs
+clauses_of most sets [] h = (refl, tt)
+clauses_of most sets (c ∷ cs) h =
+    let own : IsProper most (repair_for sets c) = All-head (IsProper most) (repair_for sets c) (map (repair_for sets) cs) h in
+    let rest = clauses_of most sets cs (All-tail (IsProper most) (repair_for sets c) (map (repair_for sets) cs) h) in
+    (and_from (rises 0 c) (list_all (rises 0) cs) own.clause_normal rest.0, (recursion_from_All (IsUpTo most) c own.clause_within, rest.1))
+
+-- the first repair of an entry that has one
+pub first_proper_of : (most : ℕ) (sets : List Literal) (cs : List (List Literal)) → 0 < length cs → All (IsProper most) (map (repair_for sets) cs) → (c : List Literal) × IsProper most (repair_for sets c)
+first_proper_of most sets [] k h = absurd (omega (arith, k))
+first_proper_of most sets (c ∷ cs) k h = (c, All-head (IsProper most) (repair_for sets c) (map (repair_for sets) cs) h)
+
+-- what is known of an entry that was read
+pub record ReadsEntry (version least most : ℕ) (ws : List (List ℕ)) (e : Entry) : Type 0 where
+  pub words : ws ≡ entry_words e
+  pub proper : All (IsProper most) (repairs_in e)
+  pub fits : Fits version e
+  pub few : least + length e.clauses ≤ most_repairs + 1
+
+checked_some_entry : (version least : ℕ) (sets : List Literal) (o : Option (List (List Literal))) (e : Entry) → checked_entry version least sets o ≡ Some e
+    → (o ≡ Some e.clauses) × (sets ≡ e.sets) × Stands version least e.sets e.clauses
+checked_some_entry version least sets None e h = absurd (none-some e h)
+checked_some_entry version least sets (Some cs) e h =
+    let made : Entry = record { sets = sets; clauses = cs } in
+    let p = if_some (is_entry version least sets cs) (Some made) e h in
+    let same : made ≡ e = (let f : Some made ≡ Some e = p.1 in cc) in
+    (ap (λ (k : Entry). Some k.clauses) same, ap (λ (k : Entry). k.sets) same, subst (λ (k : Entry). Stands version least k.sets k.clauses) same (stands_from version least sets cs p.0))
+
+entry_parts : (version least most : ℕ) (o : Option (List Literal × List (List ℕ))) (e : Entry) → entry_behind version least most o ≡ Some e
+    → (ws : List (List ℕ)) × (o ≡ Some (e.sets, ws)) × (clauses_in most ws ≡ Some e.clauses) × Stands version least e.sets e.clauses
+entry_parts version least most None e h = absurd (none-some e h)
+entry_parts version least most (Some (sets, ws)) e h =
+    let p = checked_some_entry version least sets (clauses_in most ws) e h in
+    (ws, ap (λ (s : List Literal). Some (s, ws)) p.1, p.0, p.2)
+
+pub entry_sound : (version least most : ℕ) (ws : List (List ℕ)) (e : Entry) → most ≤ greatest → entry_in version least most ws ≡ Some e → ReadsEntry version least most ws e
+entry_sound version least most ws e small h =
+    let p = entry_parts version least most (clause_in most ws) e h in
+    let first = clause_sound most ws e.sets p.0 small p.1 in
+    let others = clauses_sound most p.0 e.clauses small p.2 in
+    let s : Stands version least e.sets e.clauses = p.3 in
+    record {
+      words = first.0 ∙ ap (λ (vs : List (List ℕ)). clause_words e.sets ++ vs) others.0;
+      proper = proper_from most e.sets e.clauses (nonempty_from e.sets s.some) s.sets_normal first.1 s.normal others.1;
+      fits = s.fits;
+      few = s.few;
+    }
+
+pub entry_complete : (version least most : ℕ) (e : Entry) → most ≤ greatest → All (IsProper most) (repairs_in e) → Fits version e → least + length e.clauses ≤ most_repairs + 1
+    → entry_in version least most (entry_words e) ≡ Some e
+entry_complete version least most e small proper fits few =
+    let own = first_proper_of most e.sets e.clauses (some_clause version (length e.clauses) fits) proper in
+    let r : IsProper most (repair_for e.sets own.0) = own.1 in
+    let cs = clauses_of most e.sets e.clauses proper in
+    let first = clause_complete most e.sets (flat_map clause_words e.clauses) small (recursion_from_All (IsUpTo most) e.sets r.sets_within) in
+    let s : Stands version least e.sets e.clauses = record { some = nonempty_to e.sets r.sets_some; sets_normal = r.sets_normal; normal = cs.0; fits = fits; few = few } in
+    ap (entry_behind version least most) first
+    ∙ ap (checked_entry version least e.sets) (clauses_complete most e.clauses small cs.1)
+    ∙ ap (λ (t : Bool). cond t (Some e) None) (stands_to version least e.sets e.clauses s)

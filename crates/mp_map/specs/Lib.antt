@@ -1,5 +1,7 @@
 pub mod Answers
+pub mod Entries
 pub mod Faults
+pub mod Laws
 pub mod Maps
 pub mod Marking
 pub mod Pieces

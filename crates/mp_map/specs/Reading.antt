@@ -1,16 +1,17 @@
 -- What the lines of a map's text say, one at a time. Only private functions speak of this.
 use Rattle.std.specs.Prelude.{ℕ, ◌-◌, ◌+◌, Bool, true, false, not, ◌&&◌, List, [], ◌∷◌, ◌++◌, length, codes, Option, Some, None, Result, Ok, Err, if◌then◌else◌, nat_eq, nat_lt, nat_le}
-use Rattle.std.specs.List.{slice_index}
+use Rattle.std.specs.List.{list_all, slice_index}
 use Rattle.std.specs.Option.{option_map}
 use Rattle.std.specs.Str.{bytes_eq}
 use Rattle.mp_logic.specs.Labelled.{names_rise}
 use Rattle.mp_logic.specs.Literal.{Literal}
 use Rattle.mp_logic.specs.Normal.{rises}
 use Rattle.mp_logic.specs.Weights.{weight_bound}
-use Rattle.mp_logic.specs.declared.instances.Repair.{Repair}
 use Rattle.mp_text.specs.Numbers.{natural_of, at_most}
 use Rattle.mp_map.specs.Pieces.{is_empty, pieces_at}
-use Rattle.mp_map.specs.Maps.{most_original, most_inner, most_repairs}
+use Rattle.mp_map.specs.Entries.{fits_version}
+use Rattle.mp_map.specs.Maps.{latest_version, most_original, most_inner, most_repairs}
+use Rattle.mp_map.specs.declared.maps.Entry.{Entry}
 use Rattle.mp_map.specs.declared.maps.MapFile.{MapFile}
 use Rattle.mp_map.specs.declared.reading.Expects.{Expects}
 use Rattle.mp_map.specs.declared.reading.Expects.TheVariants.{Header, Original, Inner, Written, Offset, Names, Count, Mend, End, Nothing}
@@ -68,17 +69,34 @@ abbrev pub clause_in : ℕ → List (List ℕ) → Option (List Literal × List 
 clause_in most [] = None
 clause_in most (w ∷ ws) = if bytes_eq w (codes "0") then Some ([], ws) else put_literal (literal_in most w) (clause_in most ws)
 
-abbrev pub checked_repair : List Literal → Option (List Literal × List (List ℕ)) → Option Repair
-checked_repair sets None = None
-checked_repair sets (Some (clause, ws)) =
-    if is_empty ws && not (is_empty sets) && rises 0 sets && rises 0 clause then Some (record { sets = sets; clause = clause }) else None
+-- the literal in front of the first of these clauses
+abbrev pub put_into_first : Option Literal → Option (List (List Literal)) → Option (List (List Literal))
+put_into_first None rest = None
+put_into_first (Some l) None = None
+put_into_first (Some l) (Some []) = None
+put_into_first (Some l) (Some (c ∷ cs)) = Some ((l ∷ c) ∷ cs)
 
-abbrev pub repair_behind : ℕ → Option (List Literal × List (List ℕ)) → Option Repair
-repair_behind most None = None
-repair_behind most (Some (sets, ws)) = checked_repair sets (clause_in most ws)
+-- clauses, each up to its 0, to the end of a line
+abbrev pub clauses_in : ℕ → List (List ℕ) → Option (List (List Literal))
+clauses_in most [] = Some []
+clauses_in most (w ∷ ws) = if bytes_eq w (codes "0") then put_first (Some []) (clauses_in most ws) else put_into_first (literal_in most w) (clauses_in most ws)
 
-abbrev pub repair_in : ℕ → List (List ℕ) → Option Repair
-repair_in most ws = repair_behind most (clause_in most ws)
+-- Least is the number of clauses of all entries, where each one from this on had one clause: the entry may have as many more
+-- as the greatest number of repairs leaves room for.
+abbrev pub is_entry : ℕ → ℕ → List Literal → List (List Literal) → Bool
+is_entry version least sets clauses =
+    ((not (is_empty sets) && rises 0 sets) && list_all (rises 0) clauses) && (fits_version version (length clauses) && nat_le (least + length clauses) (most_repairs + 1))
+
+abbrev pub checked_entry : ℕ → ℕ → List Literal → Option (List (List Literal)) → Option Entry
+checked_entry version least sets None = None
+checked_entry version least sets (Some clauses) = if is_entry version least sets clauses then Some (record { sets = sets; clauses = clauses }) else None
+
+abbrev pub entry_behind : ℕ → ℕ → ℕ → Option (List Literal × List (List ℕ)) → Option Entry
+entry_behind version least most None = None
+entry_behind version least most (Some (sets, ws)) = checked_entry version least sets (clauses_in most ws)
+
+abbrev pub entry_in : ℕ → ℕ → ℕ → List (List ℕ) → Option Entry
+entry_in version least most ws = entry_behind version least most (clause_in most ws)
 
 -- a repair needs a variable to set
 abbrev pub most_repairs_over : ℕ → ℕ
@@ -89,7 +107,7 @@ expected_before left = if nat_eq left 0 then End else Mend
 
 abbrev pub header_read : Reader → Option ℕ → Option Reader
 header_read r None = None
-header_read r (Some n) = if nat_eq n 1 then Some (record r { expects = Original }) else None
+header_read r (Some n) = if nat_eq n 0 then None else Some (record r { expects = Original; map = record r.map { version = n } })
 
 abbrev pub inner_read : Reader → Option ℕ → Option Reader
 inner_read r None = None
@@ -102,16 +120,19 @@ is_end_line (w ∷ ws) = bytes_eq w (codes "end") && is_empty ws
 abbrev pub end_read : Reader → Bool → Option Reader
 end_read r good = if good then Some (record r { expects = Nothing }) else None
 
+abbrev pub with_entry : Reader → Entry → Reader
+with_entry r e = record r { expects = expected_before (r.left - 1); left = r.left - 1; least = (r.least + length e.clauses) - 1; map = record r.map { repairs = r.map.repairs ++ e ∷ [] } }
+
 -- the reader behind a line of these words
 abbrev pub next_at : Expects → Reader → List (List ℕ) → Option Reader
-next_at Header r ws = header_read r (number_in (codes "maxpre-map") 1 ws)
+next_at Header r ws = header_read r (number_in (codes "maxpre-map") latest_version ws)
 next_at Original r ws = option_map (λ n. record r { expects = Inner; map = record r.map { original = n } }) (number_in (codes "original") most_original ws)
 next_at Inner r ws = inner_read r (number_in (codes "inner") most_inner ws)
 next_at Written r ws = option_map (λ n. record r { expects = Offset; map = record r.map { written = n } }) (number_in (codes "written") r.map.inner ws)
 next_at Offset r ws = option_map (λ n. record r { expects = Names; map = record r.map { offset = n } }) (number_in (codes "offset") (weight_bound - 1) ws)
 next_at Names r ws = option_map (λ ns. record r { expects = Count; map = record r.map { names = ns } }) (names_in r.map.inner r.map.written ws)
-next_at Count r ws = option_map (λ n. record r { expects = expected_before n; left = n }) (number_in (codes "repairs") (most_repairs_over r.map.inner) ws)
-next_at Mend r ws = option_map (λ p. record r { expects = expected_before (r.left - 1); left = r.left - 1; map = record r.map { repairs = r.map.repairs ++ p ∷ [] } }) (repair_in r.map.inner ws)
+next_at Count r ws = option_map (λ n. record r { expects = expected_before n; left = n; least = n }) (number_in (codes "repairs") (most_repairs_over r.map.inner) ws)
+next_at Mend r ws = option_map (with_entry r) (entry_in r.map.version r.least r.map.inner ws)
 next_at End r ws = end_read r (is_end_line ws)
 next_at Nothing r ws = None
 
@@ -142,7 +163,7 @@ read_pieces r n (p ∷ ps) = read_on r n p ps
 
 -- the reader before the first line
 abbrev pub start : Reader
-start = record { expects = Header; left = 0; map = record { original = 0; inner = 0; written = 0; offset = 0; names = []; repairs = [] } }
+start = record { expects = Header; left = 0; least = 0; map = record { version = 1; original = 0; inner = 0; written = 0; offset = 0; names = []; repairs = [] } }
 
 -- the map of a text, or the line at fault
 abbrev pub read_text : List ℕ → Result MapFile ℕ

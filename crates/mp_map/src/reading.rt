@@ -1,13 +1,14 @@
-ghost use Rattle.std.specs.Prelude.{◌≡◌, ◌≤◌, ◌<◌, ◌+◌, Some, None, length, IfOk, IfErr, IfSome, MatchBool, MatchOption};
-ghost use Rattle.mp_logic.specs.Labelled.{names_rise};
-ghost use Rattle.mp_map.specs.Reading.{number_in, numbers_in, names_in, literal_in, clause_in, repair_in, signed, is_end_line, most_repairs_over, expected_before, end_at, read_text};
+//! Reading a map, line by line.
+ghost use Rattle.std.specs.Prelude.{◌≡◌, ◌≤◌, ◌<◌, ◌+◌, Some, None, length, IfOk, IfErr, MatchBool};
+ghost use Rattle.mp_map.specs.Reading.{is_end_line, most_repairs_over, expected_before, end_at, read_text};
 ghost use Rattle.mp_map.specs.Answers.{Answers};
 ghost use Rattle.mp_map.specs.Faults.{IsRefused, OneSpelling};
 ghost use Rattle.mp_map.specs.Maps.{IsMap, map_text};
 
-use crate::maps::{MapError, MapFile};
-use crate::words::{Pieces, cut, exact};
-use mp_logic::{Clause, ListOf, Lit, Names, NoMemory, Repair, WEIGHT_LIMIT, is_normal};
+use crate::fields::{entry, names, number};
+use crate::maps::{LATEST_VERSION, MapError, MapFile};
+use crate::words::{Pieces, cut};
+use mp_logic::{ListOf, NoMemory, WEIGHT_LIMIT};
 use std::alloc::Global;
 
 const MOST_ORIGINAL: u128 = 8_388_607;
@@ -44,132 +45,14 @@ pub enum Expects {
     Nothing,
 }
 
-/// The lines so far: what comes next, how many repairs are still to come, and what was read.
+/// The lines so far: what comes next, how many entries are still to come, how many clauses all entries have at least, and
+/// what was read.
 #[derive(Drop)]
 pub struct Reader {
     pub expects: Expects,
     pub left: u64,
+    pub least: u64,
     pub map: MapFile,
-}
-
-/// The number of a line of a word and a number.
-fn number(words: &mut Pieces, word: &[u8], most: u128) -> Option<u128>
-    ensures value { result ≡ number_in word.now most words.old }
-    ensures most { IfSome result (λ n. n ≤ most) }
-{
-    if words.next_piece()? != word {
-        return None;
-    }
-    let digits = words.next_piece()?;
-    if words.next_piece().is_some() {
-        return None;
-    }
-    exact(digits, most)
-}
-
-/// Numbers up to the end of a line.
-fn numbers(alloc: Global, words: &mut Pieces, most: u32) -> Result<Option<Names>, NoMemory>
-    ensures { IfOk result (λ found. found ≡ numbers_in most words.old) }
-{
-    let mut made = ListOf::new(alloc);
-    while let Some(word) = words.next_piece() {
-        let Some(n) = exact(word, u128::from(most)) else {
-            return Ok(None);
-        };
-        made.push(n as u32)?;
-    }
-    Ok(Some(made))
-}
-
-/// Whether the names rise strictly from 1 to `inner`.
-fn names_are_rising(names: &Names, inner: u32) -> bool
-    ensures { result ≡ names_rise 0 inner names.now }
-{
-    let mut last = 0;
-    for name in names.items() {
-        if *name <= last || inner < *name {
-            return false;
-        }
-        last = *name;
-    }
-    true
-}
-
-fn names(
-    alloc: Global,
-    words: &mut Pieces,
-    inner: u32,
-    written: u32,
-) -> Result<Option<Names>, NoMemory>
-    ensures { IfOk result (λ found. found ≡ names_in inner written words.old) }
-{
-    let Some(word) = words.next_piece() else {
-        return Ok(None);
-    };
-    if word != b"names".as_slice() {
-        return Ok(None);
-    }
-    let Some(made) = numbers(alloc, words, inner)? else {
-        return Ok(None);
-    };
-    if made.len() == written as usize && names_are_rising(&made, inner) {
-        return Ok(Some(made));
-    }
-    Ok(None)
-}
-
-fn with_sign(negative: bool, value: Option<u128>) -> Option<Lit>
-    requires { IfSome value (λ n. n < 4294967296) }
-    ensures { result ≡ signed negative value }
-{
-    let variable = value? as u32;
-    if variable == 0 {
-        return None;
-    }
-    Some(Lit::new(variable, negative))
-}
-
-/// A literal in its one spelling, of a variable from 1 to `most`.
-fn literal(word: &[u8], most: u32) -> Option<Lit>
-    ensures { result ≡ literal_in most word.now }
-{
-    let (first, others) = word.split_first()?;
-    if *first == b'-' {
-        return with_sign(true, exact(others, u128::from(most)));
-    }
-    with_sign(false, exact(word, u128::from(most)))
-}
-
-/// Literals up to a 0.
-fn clause(alloc: Global, words: &mut Pieces, most: u32) -> Result<Option<Clause>, NoMemory>
-    ensures { IfOk result (λ found. MatchOption found (clause_in most words.old ≡ None) (λ c. clause_in most words.old ≡ Some (c, words.new))) }
-{
-    let mut made = Clause::new(alloc);
-    while let Some(word) = words.next_piece() {
-        if word == b"0".as_slice() {
-            return Ok(Some(made));
-        }
-        let Some(lit) = literal(word, most) else {
-            return Ok(None);
-        };
-        made.push(lit)?;
-    }
-    Ok(None)
-}
-
-fn repair(alloc: Global, words: &mut Pieces, most: u32) -> Result<Option<Repair>, NoMemory>
-    ensures { IfOk result (λ found. found ≡ repair_in most words.old) }
-{
-    let Some(sets) = clause(alloc, words, most)? else {
-        return Ok(None);
-    };
-    let Some(clause) = clause(alloc, words, most)? else {
-        return Ok(None);
-    };
-    if words.next_piece().is_none() && sets.len() > 0 && is_normal(&sets) && is_normal(&clause) {
-        return Ok(Some(Repair { sets, clause }));
-    }
-    Ok(None)
 }
 
 impl Reader {
@@ -181,7 +64,9 @@ impl Reader {
         Reader {
             expects: Expects::Header,
             left: 0,
+            least: 0,
             map: MapFile {
+                version: 1,
                 original: 0,
                 inner: 0,
                 written: 0,
@@ -205,7 +90,7 @@ impl Reader {
             Expects::Offset => Ok(self.read_offset(&mut words)),
             Expects::Names => self.read_names(alloc, &mut words),
             Expects::Count => Ok(self.read_count(&mut words)),
-            Expects::Mend => self.read_repair(alloc, &mut words),
+            Expects::Mend => self.read_entry(alloc, &mut words),
             Expects::End => Ok(self.read_end(&mut words)),
             Expects::Nothing => Ok(false),
         }
@@ -215,9 +100,13 @@ impl Reader {
         requires { self.old.expects ≡ Expects.Header }
         ensures { MatchBool result (next self.old words.old ≡ Some self.new) (next self.old words.old ≡ None) }
     {
-        let Some(1) = number(words, b"maxpre-map", 1) else {
+        let Some(version) = number(words, b"maxpre-map", u128::from(LATEST_VERSION)) else {
             return false;
         };
+        if version == 0 {
+            return false;
+        }
+        self.map.version = version as u32;
         self.expects = Expects::Original;
         true
     }
@@ -294,18 +183,21 @@ impl Reader {
             return false;
         };
         self.left = left as u64;
+        self.least = self.left;
         self.expects = before(self.left);
         true
     }
 
-    fn read_repair(&mut self, alloc: Global, words: &mut Pieces) -> Result<bool, NoMemory>
+    fn read_entry(&mut self, alloc: Global, words: &mut Pieces) -> Result<bool, NoMemory>
         requires { self.old.expects ≡ Expects.Mend }
         ensures { IfOk result (λ read. MatchBool read (next self.old words.old ≡ Some self.new) (next self.old words.old ≡ None)) }
     {
-        let Some(repair) = repair(alloc, words, self.map.inner)? else {
+        let Some(entry) = entry(alloc, words, self.map.version, self.least, self.map.inner)? else {
             return Ok(false);
         };
-        self.map.repairs.push(repair)?;
+        let clauses = u128::from(self.least) + entry.clauses.len() as u128;
+        self.least = clauses.saturating_sub(1) as u64;
+        self.map.repairs.push(entry)?;
         self.left = self.left.saturating_sub(1);
         self.expects = before(self.left);
         Ok(true)

@@ -1,11 +1,11 @@
 ghost use Rattle.std.specs.Prelude.{◌≡◌, ◌++◌, ◌∷◌, [], codes, decimal, map, IfOk, OnOk};
-ghost use Rattle.std.specs.List.{join_with_byte};
+ghost use Rattle.std.specs.List.{flat_map, join_with_byte};
 ghost use Rattle.mp_text.specs.Lines.{line_text};
 ghost use Rattle.mp_text.specs.Writing.{literal_word, clause_words};
-ghost use Rattle.mp_map.specs.Maps.{IsMap, map_text, repair_words};
+ghost use Rattle.mp_map.specs.Maps.{IsMap, entry_words, map_text};
 
-use crate::maps::MapFile;
-use mp_logic::{Clause, Lit, Names, NoMemory, Repair};
+use crate::maps::{Entry, MapFile};
+use mp_logic::{Clause, Lit, Names, NoMemory};
 use mp_text::{Bytes, TextBuf};
 use std::alloc::Global;
 
@@ -15,15 +15,15 @@ pub fn write_map(alloc: Global, map: &MapFile) -> Result<Bytes, NoMemory>
     ensures { IfOk result (λ text. text ≡ map_text map.now) }
 {
     let mut text = TextBuf::new(alloc);
-    text.word(b"maxpre-map 1\n")?;
+    write_number(&mut text, b"maxpre-map", u128::from(map.version))?;
     write_number(&mut text, b"original", u128::from(map.original))?;
     write_number(&mut text, b"inner", u128::from(map.inner))?;
     write_number(&mut text, b"written", u128::from(map.written))?;
     write_number(&mut text, b"offset", map.offset)?;
     write_names(&mut text, &map.names)?;
     write_number(&mut text, b"repairs", map.repairs.len() as u128)?;
-    for repair in map.repairs.items() {
-        write_repair(&mut text, repair)?;
+    for entry in map.repairs.items() {
+        write_entry(&mut text, entry)?;
     }
     text.word(b"end\n")?;
     Ok(text.into_bytes())
@@ -50,12 +50,14 @@ fn write_names(text: &mut TextBuf, names: &Names) -> Result<(), NoMemory>
     text.word(b"\n")
 }
 
-fn write_repair(text: &mut TextBuf, repair: &Repair) -> Result<(), NoMemory>
-    ensures { OnOk result (text.new ≡ text.old ++ line_text (repair_words repair.now)) }
+fn write_entry(text: &mut TextBuf, entry: &Entry) -> Result<(), NoMemory>
+    ensures { OnOk result (text.new ≡ text.old ++ line_text (entry_words entry.now)) }
 {
-    write_clause(text, &repair.sets)?;
-    text.word(b" ")?;
-    write_clause(text, &repair.clause)?;
+    write_clause(text, &entry.sets)?;
+    for place in 0..entry.clauses.len() {
+        text.word(b" ")?;
+        write_clause(text, &entry.clauses.items()[place])?;
+    }
     text.word(b"\n")
 }
 

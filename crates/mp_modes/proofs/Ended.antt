@@ -1,21 +1,29 @@
 -- How the top call ends, from how its inputs were read and how its texts were written.
-use Rattle.std.proofs.Common.{◌≡◌, ◌≢◌, ◌⊎◌, ◌<◌, ◌≤◌, ◌+◌, ◌-◌, ◌^◌, ℕ, List, [], ◌∷◌, ◌++◌, Option, Some, refl, ap, sym, ◌∙◌, subst, arith, inl, inr}
-use Rattle.std.proofs.lemmas.Bool.{cases_lt}
+use Rattle.std.proofs.Common.{◌≡◌, ◌≢◌, ◌⊎◌, ◌<◌, ◌≤◌, ◌+◌, ◌-◌, ◌^◌, ℕ, Bool, true, false, cond, List, [], ◌∷◌, ◌++◌, Option, Some, length, refl, ap, sym, ◌∙◌, subst, arith, inl, inr}
+use Rattle.std.specs.Prelude.{None, nat_le, nat_lt}
+use Rattle.std.proofs.lemmas.Option.{none-some, same_Some}
+use Rattle.mp_text.specs.Numbers.{at_most, natural_of}
+use Rattle.std.proofs.lemmas.Bool.{cases_lt, leb-true}
 use Rattle.mp_host.specs.World.{Rose, last_count}
-use Rattle.mp_words.specs.Commands.{IsFault, Request, Preprocess, Reconstruct, Spells}
+use Rattle.mp_engine.specs.declared.done.Done.{Done}
+use Rattle.mp_words.specs.Commands.{IsFault, Request, Preprocess, Reconstruct, Evaluate, Workload, Upgrade, Spells, most_tasks}
 use Rattle.mp_words.specs.declared.command.CommandError.{CommandError}
 use Rattle.mp_words.specs.declared.command.CommandError.TheVariants as faults
 use Rattle.mp_words.proofs.OneCommand.{commands_one}
-use Rattle.mp_modes.specs.Commands.{Answers, BarsRequest, EndsUnspelled, OfMode, PreparesRequest, StopsRequest, refused_words}
+use Rattle.mp_modes.specs.Commands.{Answers, BarsRequest, EndsUnspelled, HasFewTasks, OfMode, PreparesRequest, StopsRequest, refused_words}
+use Rattle.mp_modes.specs.EvaluateMode.{evaluate_mode}
 use Rattle.mp_modes.specs.Inputs.{Input, Stops, StopsAt}
 use Rattle.mp_modes.specs.PreprocessMode.{preprocess_mode}
 use Rattle.mp_modes.specs.ReconstructMode.{reconstruct_mode}
-use Rattle.mp_modes.specs.Refusals.{HasFixedLine, faults_of, status_of, text_status}
-use Rattle.mp_modes.specs.Running.{Mode, IsSaid, Says, SaysOrWants, Does, DoesPart, Prepares, StopsReading, IsDone, IsCutShort, IsTurnedAway, Ends, EndsUnread, IsCounted, after_reading}
+use Rattle.mp_modes.specs.UpgradeMode.{upgrade_mode}
+use Rattle.mp_modes.specs.WorkloadMode.{workload_mode}
+use Rattle.mp_modes.specs.Refusals.{HasFixedLine, faults_of, line_of, status_of, text_status}
+use Rattle.mp_modes.specs.Running.{Mode, IsPrepared, IsSaid, IsSeen, unsaid, Says, SaysOrWants, Does, DoesPart, Prepares, StopsReading, IsDone, IsCutShort, IsTurnedAway, Ends, EndsUnread, IsCounted, after_reading}
 use Rattle.mp_modes.specs.Outputs.{steps_of}
 use Rattle.mp_modes.specs.Traces.{Outside, Trace, begun, asking}
 use Rattle.mp_modes.specs.declared.outputs.Outputs.{Outputs}
 use Rattle.mp_modes.specs.declared.status.Outcome.{Outcome}
+use Rattle.mp_modes.specs.declared.status.Status.{Status}
 use Rattle.mp_modes.specs.declared.status.Status.TheVariants as statuses
 use Rattle.mp_modes.specs.declared.refusal.TextRefusal.{TextRefusal}
 use Rattle.mp_modes.specs.declared.refusal.TextRefusal.TheVariants as texts
@@ -46,8 +54,11 @@ unread faults.NoMemory refusal old new outcome is h = let P : Refusal → Type 0
 
 -- memory may be wanting for each request
 wanting : (request : Request) → BarsRequest request refusals.NoMemory
-wanting (Preprocess file techniques map form) = tt
-wanting (Reconstruct file map form) = refl
+wanting (Preprocess file techniques map form merge version) = tt
+wanting (Reconstruct file map original form) = refl
+wanting (Evaluate file solution) = refl
+wanting (Workload tasks techniques) = tt
+wanting (Upgrade file map) = refl
 
 -- where they spell a request, that was for want of memory
 pub unread_request : (words : List (List ℕ)) (error : CommandError) (refusal : Refusal) (request : Request) (old new : Outside) (outcome : Outcome) → refusal ≡ refused_words error → IsFault words error → Spells words request
@@ -72,16 +83,18 @@ turned_away mode old mid new refusal outcome stop h =
 
 -- all steps were done
 pub done : (mode : Mode) (old mid new : Outside) (outputs : Outputs) (outcome : Outcome) → Prepares mode old mid outputs → Does (steps_of outputs) mid new
-    → outcome.status ≡ statuses.Ok → outcome.faults_seen ≡ 0 → Ends mode old new outcome
-done mode old mid new outputs outcome p does status seen =
-    inl (record { steps = steps_of outputs; prepared = p.prepared; left = does (after_reading mode old) old p.left; status = status; seen = seen })
+    → outcome.status ≡ statuses.Ok → outcome.faults_seen ≡ 0 → outcome.done ≡ outputs.done → Ends mode old new outcome
+done mode old mid new outputs outcome p does status seen run =
+    let Ready : Option Done → Type 0 = λ d. IsPrepared mode old.world d (steps_of outputs) in
+    inl (record { steps = steps_of outputs; prepared = subst Ready (sym run) p.prepared; left = does (after_reading mode old) old p.left; status = status; seen = seen })
 
 -- a step failed
 pub cut_short : (mode : Mode) (old mid new : Outside) (outputs : Outputs) (outcome : Outcome) → Prepares mode old mid outputs → DoesPart (steps_of outputs) mid new
-    → outcome.status ≡ statuses.WriteFault → outcome.faults_seen ≡ 1 → Ends mode old new outcome
-cut_short mode old mid new outputs outcome p does status seen =
+    → outcome.status ≡ statuses.WriteFault → outcome.faults_seen ≡ 1 → outcome.done ≡ outputs.done → Ends mode old new outcome
+cut_short mode old mid new outputs outcome p does status seen run =
     let part = does (after_reading mode old) old p.left in
-    inr (inl (record { steps = steps_of outputs; prepared = p.prepared; end = part.0; cut = part.1; left = part.2; status = status; seen = seen }))
+    let Ready : Option Done → Type 0 = λ d. IsPrepared mode old.world d (steps_of outputs) in
+    inr (inl (record { steps = steps_of outputs; prepared = subst Ready (sym run) p.prepared; end = part.0; cut = part.1; left = part.2; status = status; seen = seen }))
 
 -- a refusal with the status of a fault is that fault
 reads : (r : Refusal) → status_of r ≡ statuses.ReadFault → r ≡ refusals.ReadFault
@@ -89,11 +102,11 @@ reads refusals.NoMemory q = absurd cc
 reads refusals.Usage q = absurd cc
 reads refusals.ReadFault q = refl
 reads refusals.TooLong q = absurd cc
-reads refusals.Unbuilt q = absurd cc
 reads (refusals.Text (texts.Instance line)) q = absurd cc
 reads (refusals.Text (texts.Limit exceeded)) q = absurd cc
 reads (refusals.Text (texts.Map line)) q = absurd cc
 reads (refusals.Text (texts.Solution line)) q = absurd cc
+reads (refusals.Text (texts.NotModel clause)) q = absurd cc
 reads (refusals.Text (texts.Script place)) q = absurd cc
 
 never_writes : (r : Refusal) → status_of r ≢ statuses.WriteFault
@@ -101,11 +114,11 @@ never_writes refusals.NoMemory q = absurd cc
 never_writes refusals.Usage q = absurd cc
 never_writes refusals.ReadFault q = absurd cc
 never_writes refusals.TooLong q = absurd cc
-never_writes refusals.Unbuilt q = absurd cc
 never_writes (refusals.Text (texts.Instance line)) q = absurd cc
 never_writes (refusals.Text (texts.Limit exceeded)) q = absurd cc
 never_writes (refusals.Text (texts.Map line)) q = absurd cc
 never_writes (refusals.Text (texts.Solution line)) q = absurd cc
+never_writes (refusals.Text (texts.NotModel clause)) q = absurd cc
 never_writes (refusals.Text (texts.Script place)) q = absurd cc
 
 -- the status of a run that was refused
@@ -126,7 +139,6 @@ on_the_way refusals.ReadFault before now rose later below = risen before now (ro
 on_the_way refusals.NoMemory before now rose later below = omega (arith, later)
 on_the_way refusals.Usage before now rose later below = omega (arith, later)
 on_the_way refusals.TooLong before now rose later below = omega (arith, later)
-on_the_way refusals.Unbuilt before now rose later below = omega (arith, later)
 on_the_way (refusals.Text x) before now rose later below = omega (arith, later)
 
 -- a refused run is counted
@@ -179,8 +191,15 @@ unread_counted error refusal old new outcome is h counted same = refusal_counted
 
 -- what holds of the mode of a request
 for_mode : (request : Request) (P Q : Mode → Type 0) → ((mode : Mode) → P mode → Q mode) → OfMode request P → OfMode request Q
-for_mode (Preprocess file techniques map form) P Q f h = record { script = h.script; spelled = h.spelled; built = h.built; holds = f (preprocess_mode file h.script map form) h.holds }
-for_mode (Reconstruct file map form) P Q f h = f (reconstruct_mode file map form) h
+for_mode (Preprocess file techniques map form merge version) P Q f h = record {
+  script = h.script;
+  spelled = h.spelled;
+  holds = f (preprocess_mode file (record { script = h.script; merged = merge; version = version; form = form }) map) h.holds;
+}
+for_mode (Reconstruct file map original form) P Q f h = f (reconstruct_mode file map original form) h
+for_mode (Evaluate file solution) P Q f h = f (evaluate_mode file solution) h
+for_mode (Workload tasks techniques) P Q f h = record { script = h.script; spelled = h.spelled; holds = f (workload_mode tasks h.script) h.holds }
+for_mode (Upgrade file map) P Q f h = f (upgrade_mode file map) h
 
 -- a request was stopped
 barred : (request : Request) (old mid new : Outside) (refusal : Refusal) (outcome : Outcome) → BarsRequest request refusal → mid ≡ old → SaysOrWants refusal mid new outcome
@@ -201,15 +220,15 @@ stopped_request request old mid new refusal outcome stop h =
 
 -- or it did all its steps
 done_request : (request : Request) (old mid new : Outside) (outputs : Outputs) (outcome : Outcome) → PreparesRequest request old mid outputs → Does (steps_of outputs) mid new
-    → outcome.status ≡ statuses.Ok → outcome.faults_seen ≡ 0 → Answers request old new outcome
-done_request request old mid new outputs outcome p does status seen =
-    inr (for_mode request (λ mode. Prepares mode old mid outputs) (λ mode. Ends mode old new outcome) (λ mode prepares. done mode old mid new outputs outcome prepares does status seen) p)
+    → outcome.status ≡ statuses.Ok → outcome.faults_seen ≡ 0 → outcome.done ≡ outputs.done → Answers request old new outcome
+done_request request old mid new outputs outcome p does status seen run =
+    inr (for_mode request (λ mode. Prepares mode old mid outputs) (λ mode. Ends mode old new outcome) (λ mode prepares. done mode old mid new outputs outcome prepares does status seen run) p)
 
 -- or a step failed
 cut_request : (request : Request) (old mid new : Outside) (outputs : Outputs) (outcome : Outcome) → PreparesRequest request old mid outputs → DoesPart (steps_of outputs) mid new
-    → outcome.status ≡ statuses.WriteFault → outcome.faults_seen ≡ 1 → Answers request old new outcome
-cut_request request old mid new outputs outcome p does status seen =
-    inr (for_mode request (λ mode. Prepares mode old mid outputs) (λ mode. Ends mode old new outcome) (λ mode prepares. cut_short mode old mid new outputs outcome prepares does status seen) p)
+    → outcome.status ≡ statuses.WriteFault → outcome.faults_seen ≡ 1 → outcome.done ≡ outputs.done → Answers request old new outcome
+cut_request request old mid new outputs outcome p does status seen run =
+    inr (for_mode request (λ mode. Prepares mode old mid outputs) (λ mode. Ends mode old new outcome) (λ mode prepares. cut_short mode old mid new outputs outcome prepares does status seen run) p)
 
 -- the request that was read is the one that the words spell
 pub turned_away_by : (words : List (List ℕ)) (request read : Request) (old mid new : Outside) (refusal : Refusal) (outcome : Outcome) → Spells words request → Spells words read
@@ -219,13 +238,60 @@ turned_away_by words request read old mid new refusal outcome h k stop says =
     stopped_request request old mid new refusal outcome (subst P (commands_one words read request k h) stop) says
 
 pub done_by : (words : List (List ℕ)) (request read : Request) (old mid new : Outside) (outputs : Outputs) (outcome : Outcome) → Spells words request → Spells words read
-    → PreparesRequest read old mid outputs → Does (steps_of outputs) mid new → outcome.status ≡ statuses.Ok → outcome.faults_seen ≡ 0 → Answers request old new outcome
-done_by words request read old mid new outputs outcome h k p does status seen =
+    → PreparesRequest read old mid outputs → Does (steps_of outputs) mid new → outcome.status ≡ statuses.Ok → outcome.faults_seen ≡ 0 → outcome.done ≡ outputs.done → Answers request old new outcome
+done_by words request read old mid new outputs outcome h k p does status seen run =
     let P : Request → Type 0 = λ r. PreparesRequest r old mid outputs in
-    done_request request old mid new outputs outcome (subst P (commands_one words read request k h) p) does status seen
+    done_request request old mid new outputs outcome (subst P (commands_one words read request k h) p) does status seen run
 
 pub cut_short_by : (words : List (List ℕ)) (request read : Request) (old mid new : Outside) (outputs : Outputs) (outcome : Outcome) → Spells words request → Spells words read
-    → PreparesRequest read old mid outputs → DoesPart (steps_of outputs) mid new → outcome.status ≡ statuses.WriteFault → outcome.faults_seen ≡ 1 → Answers request old new outcome
-cut_short_by words request read old mid new outputs outcome h k p does status seen =
+    → PreparesRequest read old mid outputs → DoesPart (steps_of outputs) mid new → outcome.status ≡ statuses.WriteFault → outcome.faults_seen ≡ 1 → outcome.done ≡ outputs.done → Answers request old new outcome
+cut_short_by words request read old mid new outputs outcome h k p does status seen run =
     let P : Request → Type 0 = λ r. PreparesRequest r old mid outputs in
-    cut_request request old mid new outputs outcome (subst P (commands_one words read request k h) p) does status seen
+    cut_request request old mid new outputs outcome (subst P (commands_one words read request k h) p) does status seen run
+
+-- at most one write of a line fails
+unsaid_few : (line : List ℕ) (count : ℕ) → unsaid line count ≤ 1
+unsaid_few line count =
+    let step : (b : Bool) → cond b 1 0 ≤ 1 = λ (b : Bool). elim b as (λ b. cond b 1 0 ≤ 1) [ true ↦ omega arith | false ↦ omega arith ] in
+    step (nat_lt count (length line))
+
+-- a refused run saw as many faults as its status says
+seen_at : (r : Refusal) (more n : ℕ) → more ≤ 1 → n ≡ faults_of r + more → IsSeen (status_of r) n
+seen_at refusals.ReadFault more n few is = (omega (arith, is), omega (arith, few, is))
+seen_at refusals.NoMemory more n few is = omega (arith, few, is)
+seen_at refusals.Usage more n few is = omega (arith, few, is)
+seen_at refusals.TooLong more n few is = omega (arith, few, is)
+seen_at (refusals.Text (texts.Instance line)) more n few is = omega (arith, few, is)
+seen_at (refusals.Text (texts.Limit exceeded)) more n few is = omega (arith, few, is)
+seen_at (refusals.Text (texts.Map line)) more n few is = omega (arith, few, is)
+seen_at (refusals.Text (texts.Solution line)) more n few is = omega (arith, few, is)
+seen_at (refusals.Text (texts.NotModel clause)) more n few is = omega (arith, few, is)
+seen_at (refusals.Text (texts.Script place)) more n few is = omega (arith, few, is)
+
+said_seen : (refusal : Refusal) (old new : Outside) (outcome : Outcome) → Says refusal old new outcome → IsSeen outcome.status outcome.faults_seen
+said_seen refusal old new outcome says =
+    let said = says (begun old.world) old (left-begun old) in
+    let At : Status → Type 0 = λ status. IsSeen status outcome.faults_seen in
+    subst At (sym said.status) (seen_at refusal (unsaid (line_of refusal) said.count) outcome.faults_seen (unsaid_few (line_of refusal) said.count) said.seen)
+
+pub refusal_seen : (refusal : Refusal) (old new : Outside) (outcome : Outcome) → SaysOrWants refusal old new outcome → IsSeen outcome.status outcome.faults_seen
+refusal_seen refusal old new outcome h = elim h [ inl says ↦ said_seen refusal old new outcome says | inr want ↦ said_seen refusals.NoMemory old new outcome want.1 ]
+
+-- a number that is at most another is no greater
+at_most_few : (max : ℕ) (o : Option ℕ) (n : ℕ) → at_most max o ≡ Some n → n ≤ max
+at_most_few max None n e = absurd (none-some n e)
+at_most_few max (Some m) n e =
+    let step : (b : Bool) → nat_le m max ≡ b → cond b (Some m) None ≡ Some n → n ≤ max =
+    λ (b : Bool). elim b as (λ b. nat_le m max ≡ b → cond b (Some m) None ≡ Some n → n ≤ max) [
+      | true ↦ λ below is. let l = leb-true m max below in let same : m ≡ n = same_Some m n is in omega (arith, l, same)
+      | false ↦ λ above is. absurd (none-some n is)
+    ] in
+    step (nat_le m max) refl e
+
+-- the words of a workload ask for few tasks
+pub few_tasks : (words : List (List ℕ)) (request : Request) → Spells words request → HasFewTasks request
+few_tasks words (Preprocess file techniques map form merge version) h = tt
+few_tasks words (Reconstruct file map original form) h = tt
+few_tasks words (Evaluate file solution) h = tt
+few_tasks words (Workload tasks techniques) h = at_most_few most_tasks (natural_of h.operand) tasks (sym h.tasks_are)
+few_tasks words (Upgrade file map) h = tt

@@ -1,9 +1,12 @@
 pub mod AnswersBack
 pub mod Barred
+pub mod Complete
 pub mod Counted
 pub mod Ended
+pub mod Modes
 pub mod OptimumKept
 pub mod Presented
+pub mod Reading
 pub mod Readings
 pub mod Refused
 pub mod Tight

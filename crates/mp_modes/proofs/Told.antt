@@ -13,6 +13,7 @@ use Rattle.mp_store.specs.Held.{labelled_of}
 use Rattle.mp_store.specs.Rewriting.{started}
 use Rattle.mp_store.specs.declared.ran.Counts.{Counts}
 use Rattle.mp_labels.specs.UnitForm.{IsUnitForm, names_of, number_of}
+use Rattle.mp_labels.proofs.Numbers.{number_bounds}
 use Rattle.mp_labels.proofs.Presented.{all_named, names_rising}
 use Rattle.mp_script.specs.Courses.{letters_of}
 use Rattle.mp_script.specs.declared.scripts.Group.{Group}
@@ -44,6 +45,7 @@ form_alike s w h u =
     ] in
     record {
       number = number_of names;
+      from_one = λ v a. (number_bounds names v (named v a)).0;
       rises = λ v x a b less. numbers_rise names 0 s.vars v x (names_rising s) (named v a) (named x b) less;
       hard = u.hard;
       costs = IsPermutation-map (numbered_cost (number_of names)) s.costs u.costs u.costs_moved;

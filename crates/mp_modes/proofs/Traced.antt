@@ -161,8 +161,8 @@ line_cut_off old new line n short is = (n, omega (arith, short), is, ap (λ (b :
 
 -- the line of a refusal was said
 pub refusal_said : (refusal : Refusal) (old new : Outside) (outcome : Outcome) (line : List ℕ) (count : ℕ) → line ≡ line_of refusal → count ≤ length line → new.world ≡ sent old.world ports.Log (take count line)
-    → new.asked ≡ old.asked → outcome.status ≡ status_of refusal → outcome.faults_seen ≡ faults_of refusal + unsaid line count → Says refusal old new outcome
-refusal_said refusal old new outcome line count is within out same status faults = λ t first h.
+    → new.asked ≡ old.asked → outcome.status ≡ status_of refusal → outcome.done ≡ None → outcome.faults_seen ≡ faults_of refusal + unsaid line count → Says refusal old new outcome
+refusal_said refusal old new outcome line count is within out same status nothing faults = λ t first h.
     let At : List ℕ → Type 0 = λ l. (count ≤ length l) × (new.world ≡ sent old.world ports.Log (take count l)) × (outcome.faults_seen ≡ faults_of refusal + unsaid l count) in
     let at : At (line_of refusal) = subst At is (within, out, faults) in
     record {
@@ -171,6 +171,7 @@ refusal_said refusal old new outcome line count is within out same status faults
       left = left-sent t first old new ports.Log (take count (line_of refusal)) h at.1 same;
       status = status;
       seen = at.2;
+      nothing = nothing;
     }
 
 -- the line of a refused text has a number

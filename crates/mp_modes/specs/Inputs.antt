@@ -39,7 +39,6 @@ StopsAt Refuses content refusals.ReadFault = Unit {0}
 StopsAt Refuses content refusals.TooLong = IfSome content (λ text. longest < length text)
 StopsAt Refuses content (refusals.Text refusal) = IfSome content (λ text. (length text ≤ longest) × Refuses text refusal)
 StopsAt Refuses content refusals.Usage = ⊥
-StopsAt Refuses content refusals.Unbuilt = ⊥
 
 -- A run stops with this refusal at the first input that isn't fine, and has asked for the names up to that one. Behind the
 -- last input only memory can be wanting.

@@ -1,6 +1,10 @@
 pub mod Commands
+pub mod Completeness
 pub mod EndStates
+pub mod EvaluateMode
+pub mod Evaluating
 pub mod Inputs
+pub mod Instances
 pub mod Limits
 pub mod Outputs
 pub mod PreprocessMode
@@ -9,5 +13,8 @@ pub mod Presenting
 pub mod ReconstructMode
 pub mod Reconstructing
 pub mod Refusals
+pub mod RoundTrip
 pub mod Running
 pub mod Traces
+pub mod UpgradeMode
+pub mod WorkloadMode

@@ -3,12 +3,11 @@ use Rattle.std.specs.Prelude.{◌≡◌, ◌++◌, ℕ, List, [], ◌∷◌, Opt
 use Rattle.mp_host.specs.declared.host.Port.TheVariants as ports
 use Rattle.mp_logic.specs.Formula.{Formula}
 use Rattle.mp_logic.specs.Optimum.{SameOptimum}
-use Rattle.mp_script.specs.declared.scripts.Group.{Group}
+use Rattle.mp_engine.specs.declared.done.Done.{Done}
 use Rattle.mp_wcnf.specs.Meaning.{Denotes}
 use Rattle.mp_wcnf.specs.Writing.{instance_text}
-use Rattle.mp_wcnf.specs.declared.writer.Form.{Form}
 use Rattle.mp_modes.specs.Inputs.{Input}
-use Rattle.mp_modes.specs.Preprocessing.{Preprocesses, IsAccepted, IsInstanceFault}
+use Rattle.mp_modes.specs.Preprocessing.{Choices, Preprocesses, IsAccepted, IsInstanceFault}
 use Rattle.mp_modes.specs.Running.{Mode}
 use Rattle.mp_modes.specs.Traces.{Step, Creates, Sends}
 
@@ -22,18 +21,18 @@ steps_of_map None map = []
 steps_of_map (Some name) map = Creates name ∷ Sends ports.Map map ∷ []
 
 -- it writes the map, where that has a name, then the instance, then the log of the run; there is a right map in each case
-abbrev pub ArePreprocessSteps : List Group → Option (List ℕ) → Form → List (List ℕ) → List Step → Type 0
-ArePreprocessSteps script name form (text ∷ []) steps =
-    (map : List ℕ) × (out : List ℕ) × (log : List ℕ) × Preprocesses script form text map out log × (steps ≡ steps_of_map name map ++ Sends ports.Out out ∷ Sends ports.Log log ∷ [])
-ArePreprocessSteps script name form _ steps = ⊥
+abbrev pub ArePreprocessSteps : Choices → Option (List ℕ) → List (List ℕ) → Option Done → List Step → Type 0
+ArePreprocessSteps chosen name (text ∷ []) (Some done) steps =
+    (map : List ℕ) × (out : List ℕ) × (log : List ℕ) × Preprocesses chosen done text map out log × (steps ≡ steps_of_map name map ++ Sends ports.Out out ∷ Sends ports.Log log ∷ [])
+ArePreprocessSteps chosen name _ run steps = ⊥
 
--- of a file, with this script, the name of the map, where it has one, and the form of the output
-abbrev pub preprocess_mode : List ℕ → List Group → Option (List ℕ) → Form → Mode
-preprocess_mode file script map form = record { inputs = instance_input file ∷ []; IsRight = ArePreprocessSteps script map form }
+-- of a file, with what is asked for and the name of the map, where it has one
+abbrev pub preprocess_mode : List ℕ → Choices → Option (List ℕ) → Mode
+preprocess_mode file chosen map = record { inputs = instance_input file ∷ []; IsRight = ArePreprocessSteps chosen map }
 
 -- the law: also where no map is written, the original's optimum is that of the written instance plus the offset in the first
 -- line of its text
 abbrev pub OptimumIsKept : Type 0
-OptimumIsKept = (script : List Group) (form : Form) (text : List ℕ) (steps : List Step) → ArePreprocessSteps script None form (text ∷ []) steps
+OptimumIsKept = (chosen : Choices) (text : List ℕ) (done : Done) (steps : List Step) → ArePreprocessSteps chosen None (text ∷ []) (Some done) steps
     → (f : Formula) × (g : Formula) × (offset : ℕ) × (out : List ℕ) × (log : List ℕ) × (steps ≡ Sends ports.Out out ∷ Sends ports.Log log ∷ [])
-    × IsAccepted text f × (out ≡ instance_text form offset g) × Denotes out g × SameOptimum f g offset
+    × IsAccepted text f × (out ≡ instance_text chosen.form offset g) × Denotes out g × SameOptimum f g offset

@@ -17,6 +17,7 @@ text_status (texts.Instance line) = statuses.BadInstance
 text_status (texts.Limit exceeded) = statuses.Limit
 text_status (texts.Map line) = statuses.BadMap
 text_status (texts.Solution line) = statuses.BadSolution
+text_status (texts.NotModel clause) = statuses.NotModel
 text_status (texts.Script place) = statuses.BadScript
 
 -- the status of a refusal
@@ -25,7 +26,6 @@ status_of refusals.NoMemory = statuses.NoMemory
 status_of refusals.Usage = statuses.Usage
 status_of refusals.ReadFault = statuses.ReadFault
 status_of refusals.TooLong = statuses.TooLong
-status_of refusals.Unbuilt = statuses.Unbuilt
 status_of (refusals.Text refusal) = text_status refusal
 
 -- what the line of a limit calls it
@@ -50,6 +50,7 @@ front_of (texts.Instance line) = codes "instance: line "
 front_of (texts.Limit exceeded) = codes "limit: " ++ (limit_word exceeded ++ codes " ")
 front_of (texts.Map line) = codes "map: line "
 front_of (texts.Solution line) = codes "solution: line "
+front_of (texts.NotModel clause) = codes "not a model: hard clause "
 front_of (texts.Script place) = codes "script: byte "
 
 -- the number in the line of a refused text
@@ -58,6 +59,7 @@ number_of (texts.Instance line) = line
 number_of (texts.Limit exceeded) = limit_of exceeded
 number_of (texts.Map line) = line
 number_of (texts.Solution line) = line
+number_of (texts.NotModel clause) = clause
 number_of (texts.Script place) = place
 
 -- what the program says on the log
@@ -66,7 +68,6 @@ line_of refusals.NoMemory = codes "maxpre: out of memory\n"
 line_of refusals.Usage = codes "maxpre: usage: maxpre MODE OPERAND [--NAME=VALUE]\n"
 line_of refusals.ReadFault = codes "maxpre: read fault\n"
 line_of refusals.TooLong = codes "maxpre: input too long\n"
-line_of refusals.Unbuilt = codes "maxpre: not built yet\n"
 line_of (refusals.Text refusal) = codes "maxpre: " ++ (front_of refusal ++ (decimal (number_of refusal) ++ 10 ∷ []))
 
 -- how many host calls failed before the line is said
@@ -90,6 +91,6 @@ exit_status statuses.BadInstance = 5
 exit_status statuses.Limit = 6
 exit_status statuses.BadMap = 7
 exit_status statuses.BadSolution = 8
+exit_status statuses.NotModel = 9
 exit_status statuses.BadScript = 10
 exit_status statuses.TooLong = 11
-exit_status statuses.Unbuilt = 12

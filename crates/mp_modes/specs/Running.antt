@@ -1,27 +1,30 @@
 -- How a mode of the program runs and ends. A mode is its inputs in order, and the steps that are right for their texts.
-use Rattle.std.specs.Prelude.{◌≡◌, ◌⊎◌, ◌<◌, ◌≤◌, ◌+◌, ℕ, List, [], length, nat_lt, take, if◌then◌else◌}
+use Rattle.std.specs.Prelude.{◌≡◌, ◌⊎◌, ◌<◌, ◌≤◌, ◌+◌, ℕ, List, [], Option, None, length, nat_lt, take, if◌then◌else◌}
 use Rattle.mp_host.specs.World.{World, Rose, last_count}
 use Rattle.mp_host.specs.declared.host.Port.TheVariants as ports
+use Rattle.mp_engine.specs.declared.done.Done.{Done}
 use Rattle.mp_modes.specs.Inputs.{Input, AreRead, Stops, after_inputs}
 use Rattle.mp_modes.specs.Outputs.{steps_of}
 use Rattle.mp_modes.specs.Refusals.{HasFixedLine, faults_of, line_of, status_of}
 use Rattle.mp_modes.specs.declared.outputs.Outputs.{Outputs}
 use Rattle.mp_modes.specs.Traces.{Outside, Trace, Step, Sends, begun, stepped, after_steps, AreCutOff, IsLeft}
 use Rattle.mp_modes.specs.declared.status.Outcome.{Outcome}
+use Rattle.mp_modes.specs.declared.status.Status.{Status}
 use Rattle.mp_modes.specs.declared.status.Status.TheVariants as statuses
 use Rattle.mp_modes.specs.declared.refusal.Refusal.{Refusal}
 use Rattle.mp_modes.specs.declared.refusal.Refusal.TheVariants as refusals
 
--- the inputs that a mode reads, in order, and which steps are right for their texts
+-- the inputs that a mode reads, in order, and which steps are right for their texts, with what a run of a script left, where
+-- the mode runs one
 pub record Mode : Type 1 where
   pub inputs : List Input
-  pub IsRight : List (List ℕ) → List Step → Type 0
+  pub IsRight : List (List ℕ) → Option Done → List Step → Type 0
 
 -- all inputs were read, nothing is wrong with their texts, and the steps are right for them
-pub record IsPrepared (mode : Mode) (w : World) (steps : List Step) : Type 0 where
+pub record IsPrepared (mode : Mode) (w : World) (left : Option Done) (steps : List Step) : Type 0 where
   pub texts : List (List ℕ)
   pub read : AreRead w [] mode.inputs texts
-  pub right : mode.IsRight texts steps
+  pub right : mode.IsRight texts left steps
 
 -- the trace of a run that read all its inputs
 abbrev pub after_reading : Mode → Outside → Trace
@@ -30,7 +33,7 @@ after_reading mode old = after_inputs (begun old.world) mode.inputs
 -- right steps were done, all of them
 pub record IsDone (mode : Mode) (old new : Outside) (outcome : Outcome) : Type 0 where
   pub steps : List Step
-  pub prepared : IsPrepared mode old.world steps
+  pub prepared : IsPrepared mode old.world outcome.done steps
   pub left : IsLeft (after_steps (after_reading mode old) steps) old new
   pub status : outcome.status ≡ statuses.Ok
   pub seen : outcome.faults_seen ≡ 0
@@ -38,7 +41,7 @@ pub record IsDone (mode : Mode) (old new : Outside) (outcome : Outcome) : Type 0
 -- right steps were begun, and one failed
 pub record IsCutShort (mode : Mode) (old new : Outside) (outcome : Outcome) : Type 0 where
   pub steps : List Step
-  pub prepared : IsPrepared mode old.world steps
+  pub prepared : IsPrepared mode old.world outcome.done steps
   pub end : Trace
   pub cut : AreCutOff (after_reading mode old) steps end
   pub left : IsLeft end old new
@@ -56,6 +59,7 @@ pub record IsSaid (refusal : Refusal) (t : Trace) (old new : Outside) (outcome :
   pub left : IsLeft (stepped t (Sends ports.Log (take count (line_of refusal)))) old new
   pub status : outcome.status ≡ status_of refusal
   pub seen : outcome.faults_seen ≡ faults_of refusal + unsaid (line_of refusal) count
+  pub nothing : outcome.done ≡ None
 
 -- an input stopped the run, and its refusal was said
 pub record IsTurnedAway (mode : Mode) (old new : Outside) (outcome : Outcome) : Type 0 where
@@ -79,6 +83,14 @@ pub record IsCounted (old new : Outside) (outcome : Outcome) : Type 0 where
   pub reading : outcome.status ≡ statuses.ReadFault → Rose old.read_faults new.read_faults
   pub writing : outcome.status ≡ statuses.WriteFault → Rose old.write_faults new.write_faults
 
+-- How many host calls answered that they failed, by the status: none where all went well, the one write that did; a fault in
+-- reading, and besides, as at each other refusal, one where its line could not be written.
+abbrev pub IsSeen : Status → ℕ → Type 0
+IsSeen statuses.Ok n = n ≡ 0
+IsSeen statuses.WriteFault n = n ≡ 1
+IsSeen statuses.ReadFault n = (1 ≤ n) × (n ≤ 2)
+IsSeen _ n = n ≤ 1
+
 -- What private functions say. Whatever a run did before: then it did these steps as well.
 abbrev pub Does : List Step → Outside → Outside → Type 0
 Does steps old new = (t : Trace) (first : Outside) → IsLeft t first old → IsLeft (after_steps t steps) first new
@@ -97,7 +109,7 @@ SaysOrWants refusal old new outcome = Says refusal old new outcome ⊎ ((HasFixe
 
 -- a mode read its inputs and built texts that are right for them
 pub record Prepares (mode : Mode) (old new : Outside) (outputs : Outputs) : Type 0 where
-  pub prepared : IsPrepared mode old.world (steps_of outputs)
+  pub prepared : IsPrepared mode old.world outputs.done (steps_of outputs)
   pub left : IsLeft (after_reading mode old) old new
 
 -- an input stopped a mode

@@ -2,13 +2,14 @@
 ghost use Rattle.std.specs.Prelude.{◌≡◌, ◌<◌, ◌≤◌, ◌+◌, ℕ, OnOk, OnErr, length, take};
 ghost use Rattle.mp_host.specs.World.{Rose, last_count, sent};
 ghost use Rattle.mp_host.specs.declared.host.Port.TheVariants as ports;
-ghost use Rattle.mp_modes.specs.Outputs.{map_steps, steps_of};
+ghost use Rattle.mp_modes.specs.Outputs.{IsOneOutput, map_steps, steps_of};
 ghost use Rattle.mp_modes.specs.Refusals.{faults_of, line_of};
 ghost use Rattle.mp_modes.specs.Running.{Does, DoesPart, Says, SaysOrWants, unsaid};
 ghost use Rattle.mp_modes.specs.Traces.{outside_of};
 
 use crate::refusal::{Refusal, fixed_line};
 use crate::status::Outcome;
+use mp_engine::Done;
 use mp_host::{Failed, Host, Port, write_all};
 use mp_text::Bytes;
 use std::alloc::Global;
@@ -26,6 +27,20 @@ pub struct Outputs {
     pub map: Option<MapText>,
     pub out: Bytes,
     pub log: Bytes,
+    /// What the run of the script left, where the mode runs one.
+    pub done: Option<Done>,
+}
+
+/// The texts of a mode that runs no script and has one output.
+pub fn one_output(alloc: Global, out: Bytes) -> Outputs
+    ensures { IsOneOutput out result.done (steps_of result) }
+{
+    Outputs {
+        map: None,
+        out,
+        log: Bytes::new(alloc),
+        done: None,
+    }
 }
 
 /// Writes the texts of a run; it stops at the first fault.
@@ -96,6 +111,7 @@ fn said<H: Host>(refusal: Refusal, line: &[u8], host: &mut H) -> Outcome
     Outcome {
         status: refusal.status(),
         faults_seen: refusal.faults() + failed,
+        done: None,
     }
 }
 

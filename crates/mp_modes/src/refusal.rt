@@ -53,7 +53,7 @@ impl Exceeded {
     }
 }
 
-/// Why the text of an input or of the script is refused; lines count from 1, places from 0.
+/// Why the text of an input or of the script is refused; lines and clauses count from 1, places from 0.
 #[derive(Clone, Copy, Debug, PartialEq, Eq)]
 pub enum TextRefusal {
     /// the instance is outside the grammar of WCNF
@@ -62,8 +62,10 @@ pub enum TextRefusal {
     Limit { exceeded: Exceeded },
     /// the map is the spelling of no map
     Map { line: u64 },
-    /// the solution is outside the grammar of solver output
+    /// the solution is outside the grammar of solver output, or tells no values where there must be some
     Solution { line: u64 },
+    /// the values of the solution make this hard clause of the original false, the first such one, from 1
+    NotModel { clause: u128 },
     /// the value of `--techniques` is no script: it stops beginning one at this place, from 0
     Script { place: u64 },
 }
@@ -78,6 +80,7 @@ impl TextRefusal {
             TextRefusal::Limit { .. } => Status::Limit,
             TextRefusal::Map { .. } => Status::BadMap,
             TextRefusal::Solution { .. } => Status::BadSolution,
+            TextRefusal::NotModel { .. } => Status::NotModel,
             TextRefusal::Script { .. } => Status::BadScript,
         }
     }
@@ -91,6 +94,7 @@ impl TextRefusal {
             TextRefusal::Limit { exceeded } => exceeded.front(),
             TextRefusal::Map { .. } => b"maxpre: map: line ",
             TextRefusal::Solution { .. } => b"maxpre: solution: line ",
+            TextRefusal::NotModel { .. } => b"maxpre: not a model: hard clause ",
             TextRefusal::Script { .. } => b"maxpre: script: byte ",
         }
     }
@@ -104,6 +108,7 @@ impl TextRefusal {
             TextRefusal::Limit { exceeded } => exceeded.limit(),
             TextRefusal::Map { line } => u128::from(line),
             TextRefusal::Solution { line } => u128::from(line),
+            TextRefusal::NotModel { clause } => clause,
             TextRefusal::Script { place } => u128::from(place),
         }
     }
@@ -130,8 +135,6 @@ pub enum Refusal {
     ReadFault,
     /// an input is longer than 4,294,967,295 bytes
     TooLong,
-    /// the script has a letter whose technique is not built yet
-    Unbuilt,
     /// the text of an input, or of the script, is at fault
     Text(TextRefusal),
 }
@@ -157,7 +160,6 @@ impl Refusal {
             Refusal::Usage => Status::Usage,
             Refusal::ReadFault => Status::ReadFault,
             Refusal::TooLong => Status::TooLong,
-            Refusal::Unbuilt => Status::Unbuilt,
             Refusal::Text(refusal) => refusal.status(),
         }
     }
@@ -193,7 +195,6 @@ pub fn fixed_line(refusal: Refusal) -> &'static [u8]
         Refusal::Usage => b"maxpre: usage: maxpre MODE OPERAND [--NAME=VALUE]\n",
         Refusal::ReadFault => b"maxpre: read fault\n",
         Refusal::TooLong => b"maxpre: input too long\n",
-        Refusal::Unbuilt => b"maxpre: not built yet\n",
         _ => b"maxpre: out of memory\n",
     }
 }

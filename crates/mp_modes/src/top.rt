@@ -2,18 +2,22 @@
 ghost use Rattle.std.specs.Prelude.{◌≡◌, ◌≤◌, IfOk, IfErr, IsErrOf, List, ℕ};
 ghost use Rattle.mp_host.specs.World.{Rose};
 ghost use Rattle.mp_script.specs.Grammar.{IsScriptOf};
-ghost use Rattle.mp_engine.specs.Stores.{CanRun, IsBuilt};
+ghost use Rattle.mp_engine.specs.Stores.{CanRun};
 ghost use Rattle.mp_words.specs.Commands.{IsCommandLine, Request, Spells, request_of};
-ghost use Rattle.mp_modes.specs.Commands.{Answers, Bars, EndsUnspelled, PreparesRequest, StopsRequest, refused_script, refused_words};
-ghost use Rattle.mp_modes.specs.Running.{IsCounted};
+ghost use Rattle.mp_modes.specs.Commands.{Answers, Bars, EndsUnspelled, HasFewTasks, PreparesRequest, StopsRequest, refused_script, refused_words};
+ghost use Rattle.mp_modes.specs.Completeness.{HasNoFault, IsOkOrWant, IsSound};
+ghost use Rattle.mp_modes.specs.Running.{IsCounted, IsSeen};
 ghost use Rattle.mp_modes.specs.Traces.{outside_of};
 
+use crate::evaluate::evaluate_file;
 use crate::outputs::{Outputs, refuse, write_outputs};
 use crate::preprocess::preprocess_file;
 use crate::reconstruct::reconstruct_file;
 use crate::refusal::{Refusal, TextRefusal};
 use crate::status::{Outcome, Status};
-use mp_engine::{built_scripts_can_run, can_run};
+use crate::upgrade::upgrade_file;
+use crate::workload::workload_run;
+use mp_engine::scripts_can_run;
 use mp_host::Host;
 use mp_script::{Script, ScriptError, parse};
 use mp_words::{Command, CommandError, Words, read_command};
@@ -21,7 +25,7 @@ use std::alloc::Global;
 
 /// Does what the words say, and answers how it ended.
 ///
-/// Techniques that are no script, or of which one is not built, are refused before any file is asked for (`Answers`).
+/// Techniques that are no script are refused before any file is asked for (`Answers`).
 /// Else, where the words are the command of a mode, the run reads the inputs of that mode in their order, stops at the first
 /// one that is at fault, and else does steps that are right for their texts, in order, until one fails (`Ends`, with the
 /// modes in `OfMode`). `Usage` comes exactly where the words are no command, unless memory is wanting; then the host is asked
@@ -33,6 +37,9 @@ pub fn maxpre<H: Host>(alloc: Global, words: &Words, host: &mut H) -> Outcome
     ensures usage { (IsCommandLine words.now → ⊥)
         → EndsUnspelled (outside_of H.world H.asked H.read_faults H.write_faults host.old) (outside_of H.world H.asked H.read_faults H.write_faults host.new) result }
     ensures counted { IsCounted (outside_of H.world H.asked H.read_faults H.write_faults host.old) (outside_of H.world H.asked H.read_faults H.write_faults host.new) result }
+    ensures seen { IsSeen result.status result.faults_seen }
+    ensures complete { (request : Request) → Spells words.now request → IsSound (H.world host.old) request → HasNoFault (outside_of H.world H.asked H.read_faults H.write_faults host.old) (outside_of H.world H.asked H.read_faults H.write_faults host.new)
+        → IsOkOrWant result.status }
 {
     let command = match read_command(alloc, words) {
         Ok(command) => command,
@@ -46,16 +53,19 @@ pub fn maxpre<H: Host>(alloc: Global, words: &Words, host: &mut H) -> Outcome
         Ok(()) => Outcome {
             status: Status::Ok,
             faults_seen: 0,
+            done: outputs.done,
         },
         Err(_fault) => Outcome {
             status: Status::WriteFault,
             faults_seen: 1,
+            done: outputs.done,
         },
     }
 }
 
 // Reads the inputs of a command, and builds all texts that it writes.
 fn prepare<H: Host>(alloc: Global, command: Command, host: &mut H) -> Result<Outputs, Refusal>
+    requires { HasFewTasks (request_of command) }
     ensures prepared { IfOk result (PreparesRequest (request_of command) (outside_of H.world H.asked H.read_faults H.write_faults host.old) (outside_of H.world H.asked H.read_faults H.write_faults host.new)) }
     ensures stopped { IfErr result (StopsRequest (request_of command) (outside_of H.world H.asked H.read_faults H.write_faults host.old) (outside_of H.world H.asked H.read_faults H.write_faults host.new)) }
     ensures fault { IsErrOf result Refusal.ReadFault → Rose (H.read_faults host.old) (H.read_faults host.new) }
@@ -71,12 +81,21 @@ fn prepare<H: Host>(alloc: Global, command: Command, host: &mut H) -> Result<Out
             preprocess_file(alloc, asked, &script, host)
         }
         Command::Reconstruct(asked) => reconstruct_file(alloc, asked, host),
+        Command::Evaluate(asked) => evaluate_file(alloc, asked, host),
+        Command::Workload(asked) => {
+            let script = match script_of(alloc, asked.techniques.as_str()) {
+                Ok(script) => script,
+                Err(refusal) => return Err(refusal),
+            };
+            workload_run(alloc, asked.tasks, &script, host)
+        }
+        Command::Upgrade(asked) => upgrade_file(alloc, asked, host),
     }
 }
 
-// The script of the techniques, where each of its letters is built.
+// The script of the techniques.
 fn script_of(alloc: Global, techniques: &str) -> Result<Script, Refusal>
-    ensures script { IfOk result (λ script. IsScriptOf techniques.now script × IsBuilt script) }
+    ensures script { IfOk result (IsScriptOf techniques.now) }
     ensures runs { IfOk result (λ script. CanRun script) }
     ensures barred { IfErr result (λ refusal. Bars techniques.now refusal) }
 {
@@ -84,12 +103,9 @@ fn script_of(alloc: Global, techniques: &str) -> Result<Script, Refusal>
         Ok(script) => script,
         Err(error) => return Err(unscripted(error)),
     };
-    if can_run(&script) {
-        // what the parser and the engine say of the script is all that a run needs
-        built_scripts_can_run();
-        return Ok(script);
-    }
-    Err(Refusal::Unbuilt)
+    // what the parser says of the script is all that a run needs
+    scripts_can_run();
+    Ok(script)
 }
 
 // The refusal of words that were not read.

@@ -1,5 +1,5 @@
 -- Options by their names.
-use Rattle.std.proofs.Common.{◌≡◌, ◌<◌, ◌∙◌, ◌∷◌, ◌++◌, ◌&&◌, ◌||◌, [], ℕ, zero, suc, List, Bool, true, false, not, cond, refl, sym, ap, subst, map, arith}
+use Rattle.std.proofs.Common.{◌≡◌, ◌<◌, ◌∷◌, ◌++◌, [], ℕ, zero, suc, List, Bool, true, false, not, refl, subst, arith}
 use Rattle.std.specs.Prelude.{Contains, slice_index_or, length}
 use Rattle.std.specs.List.{list_any}
 use Rattle.std.specs.Str.{bytes_eq}

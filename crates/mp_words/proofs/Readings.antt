@@ -1,5 +1,5 @@
 -- Words, as they are read.
-use Rattle.std.proofs.Common.{◌≡◌, ◌≢◌, ◌∙◌, ◌==◌, ◌++◌, ◌+◌, ◌<◌, ◌≤◌, ◌∷◌, [], ℕ, zero, suc, List, Some, Bool, true, false, codes, refl, sym, ap, ap₂, subst, map, take, length, inl, inr, arith, add-one}
+use Rattle.std.proofs.Common.{◌≡◌, ◌∙◌, ◌==◌, ◌++◌, ◌+◌, ◌<◌, ◌≤◌, ◌∷◌, [], ℕ, zero, suc, List, Some, Bool, true, false, codes, refl, sym, ap, ap₂, subst, map, take, length, inl, inr, arith, add-one}
 use Rattle.std.specs.Prelude.{Contains, All, slice_get, Option, drop, not, ◌&&◌, ◌||◌, ◌⊎◌, IfNone, None, slice_index_or}
 use Rattle.std.specs.List.{list_any}
 use Rattle.std.specs.Borrow.{Bor}
@@ -73,7 +73,7 @@ not_read names words i word ps ns at h r = no_word names r.read i word (ap (λ (
 
 -- a name has no `=`, so that a word is one option with one value
 no_equals : Each (λ name. list_any (λ x. x == 61) name ≡ false) all_options
-no_equals = (refl, (refl, (refl, (refl, tt))))
+no_equals = (refl, (refl, (refl, (refl, (refl, (refl, (refl, (refl, tt))))))))
 
 eq_self : (x : ℕ) → 61 ≡ x → (x == 61) ≡ false → ⊥
 eq_self x e h = true≢false (sym (subst (λ (y : ℕ). (y == 61) ≡ true) e refl) ∙ h)

@@ -1,5 +1,5 @@
 -- What clap reads of a command line.
-use Rattle.std.proofs.Common.{◌≡◌, ◌≢◌, ◌∙◌, ◌==◌, ◌&&◌, ◌||◌, ◌++◌, ◌+◌, ◌∷◌, [], ℕ, suc, List, Option, Some, None, Bool, true, false, not, cond, codes, refl, sym, ap, subst, map, fold, arith}
+use Rattle.std.proofs.Common.{◌≡◌, ◌≢◌, ◌∙◌, ◌==◌, ◌&&◌, ◌+◌, ◌∷◌, [], ℕ, List, Option, Some, None, Bool, true, false, not, cond, codes, refl, sym, ap, subst, map, fold, arith}
 use Rattle.std.specs.Prelude.{Contains, length, All}
 use Rattle.std.specs.List.{list_any, list_all, find}
 use Rattle.std.specs.Option.{option_map_or}
@@ -8,9 +8,11 @@ use Rattle.std.specs.Str.{bytes_eq}
 use Rattle.std.proofs.lemmas.Bool.{and_parts, or_parts, or_from}
 use Rattle.std.proofs.lemmas.List.Elements.{All-head, All-tail}
 use Rattle.clap.specs.Facts.{explicit_source}
-use Rattle.clap.specs.Simple.{built, matches_of, is_simple}
+use Rattle.clap.specs.Simple.{App, HasMatchesOf, built, matches_of, is_simple}
 use Rattle.clap.specs.Takes.{level_passes, is_given, is_valid, takes, settle_passes, walk_passes}
-use Rattle.clap.specs.Walk.{Rule, Text, Row, Walk, first_of, finished, is_empty, nothing_held, reading_by, default_rows, has_row, with_default, settled_rows, walk_from}
+use Rattle.clap.specs.Words.{found_of}
+use Rattle.clap.specs.declared.parser.matches.ArgMatches.{ArgMatches}
+use Rattle.clap.specs.Walk.{rows_of, Rule, Text, Row, first_of, finished, is_empty, nothing_held, reading_by, default_rows, has_row, with_default, settled_rows, walk_from}
 use Rattle.clap.proofs.SimpleLemmas.{is_nil}
 use Rattle.clap.proofs.TakesLemmas.{leaf_takes}
 use Rattle.mp_words.specs.declared.modes.Mode.{Mode}
@@ -19,12 +21,15 @@ use Rattle.mp_words.specs.CommandLines.{Given, Word, plain, option, word_text, I
 use Rattle.mp_words.specs.Modes.{all_options, options_of}
 use Rattle.mp_words.specs.Parsed.{app}
 use Rattle.mp_words.proofs.Names.{Each, each_of, true_not}
-use Rattle.mp_words.proofs.Walks.{shape, rules, row, Place, first, second, last, number, Fits, noted, IsWalked, walk_all, walk_end, at, nothing, mode_given, operand_given}
+use Rattle.mp_words.proofs.Walks.{shape, rules, row, Place, first, second, last, number, Fits, noted, IsWalked, walk_all, walk_end, at, nothing}
 
 -- each option of a mode is an option
 pub known : (mode : Mode) (name : List ℕ) → Contains (options_of mode) name → Contains all_options name
-known modes.Preprocess name h = each_of (Contains all_options) (options_of modes.Preprocess) name ((0, omega arith, refl), ((1, omega arith, refl), ((2, omega arith, refl), tt))) h
-known modes.Reconstruct name h = each_of (Contains all_options) (options_of modes.Reconstruct) name ((1, omega arith, refl), ((3, omega arith, refl), tt)) h
+known modes.Preprocess name h = each_of (Contains all_options) (options_of modes.Preprocess) name ((0, omega arith, refl), ((1, omega arith, refl), ((2, omega arith, refl), ((3, omega arith, refl), ((4, omega arith, refl), tt))))) h
+known modes.Reconstruct name h = each_of (Contains all_options) (options_of modes.Reconstruct) name ((1, omega arith, refl), ((5, omega arith, refl), ((6, omega arith, refl), tt))) h
+known modes.Evaluate name h = each_of (Contains all_options) (options_of modes.Evaluate) name ((7, omega arith, refl), tt) h
+known modes.Workload name h = each_of (Contains all_options) (options_of modes.Workload) name ((0, omega arith, refl), tt) h
+known modes.Upgrade name h = each_of (Contains all_options) (options_of modes.Upgrade) name ((1, omega arith, refl), tt) h
 
 -- no option is named as the mode or the operand
 pub record IsUnlike (name : List ℕ) : Type 0 where
@@ -33,14 +38,11 @@ pub record IsUnlike (name : List ℕ) : Type 0 where
   pub of_mode : bytes_eq (codes "mode") name ≡ false
   pub of_operand : bytes_eq (codes "operand") name ≡ false
 
+apart : (name : List ℕ) → bytes_eq name (codes "mode") ≡ false → bytes_eq name (codes "operand") ≡ false → bytes_eq (codes "mode") name ≡ false → bytes_eq (codes "operand") name ≡ false → IsUnlike name
+apart name m o f g = record { mode = m; operand = o; of_mode = f; of_operand = g }
+
 unlike_all : Each IsUnlike all_options
-unlike_all = (
-  record { mode = refl; operand = refl; of_mode = refl; of_operand = refl },
-  (
-    record { mode = refl; operand = refl; of_mode = refl; of_operand = refl },
-    (record { mode = refl; operand = refl; of_mode = refl; of_operand = refl }, (record { mode = refl; operand = refl; of_mode = refl; of_operand = refl }, tt)),
-  ),
-)
+unlike_all = (apart _ refl refl refl refl, (apart _ refl refl refl refl, (apart _ refl refl refl refl, (apart _ refl refl refl refl, (apart _ refl refl refl refl, (apart _ refl refl refl refl, (apart _ refl refl refl refl, (apart _ refl refl refl refl, tt))))))))
 
 unlike : (name : List ℕ) → Contains all_options name → IsUnlike name
 unlike name h = each_of IsUnlike all_options name unlike_all h
@@ -233,11 +235,18 @@ level mode words operand options line =
     (subst (λ (x : List Row). is_given (codes "mode") x ≡ true) e (given_is (codes "mode") (noted first line.read) _ (noted_mode _ operand line.read f line.plain_are)))
     (subst (λ (x : List Row). is_given (codes "operand") x ≡ true) e (given_is (codes "operand") (noted first line.read) operand (noted_operand _ operand line.read f line.plain_are)))))
 
+app_is_simple : is_simple app ≡ true
+app_is_simple = refl
+
+-- what clap found of an app that is this one
+pub matches_moved : (a : App) (words : List (List ℕ)) (m : ArgMatches) → a ≡ app → HasMatchesOf a words m → rows_of (found_of m) ≡ matches_of app words
+matches_moved a words m e h = (subst (λ (x : App). HasMatchesOf x words m) e h app_is_simple).0
+
 -- clap takes each command line
 pub line_taken : (mode : Mode) (words : List (List ℕ)) (operand : List ℕ) (options : List Given) → IsLine mode words operand options → takes app words ≡ true
 line_taken mode words operand options line =
     subst (λ (x : List (List ℕ)). takes app x ≡ true) (sym line.spelled)
-    (both (is_simple app) _ refl (leaf_takes (built app) nothing_held (map word_text line.read) refl (level mode words operand options line)))
+    (both (is_simple app) _ app_is_simple (leaf_takes (built app) nothing_held (map word_text line.read) refl (level mode words operand options line)))
 
 -- and reads the operand and the options of it
 pub line_operand : (mode : Mode) (words : List (List ℕ)) (operand : List ℕ) (options : List Given) → IsLine mode words operand options → first_of (codes "operand") (matches_of app words) ≡ Some operand

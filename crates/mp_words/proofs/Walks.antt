@@ -1,18 +1,17 @@
 -- What clap reads of words in any order.
-use Rattle.std.proofs.Common.{◌≡◌, ◌∙◌, ◌==◌, ◌&&◌, ◌||◌, ◌++◌, ◌∷◌, [], ℕ, List, Option, Some, None, Bool, true, false, not, cond, codes, refl, sym, ap, subst, map, fold, arith}
-use Rattle.std.specs.Prelude.{Contains, length}
-use Rattle.std.specs.List.{list_any, list_all}
+use Rattle.std.proofs.Common.{◌≡◌, ◌∙◌, ◌==◌, ◌&&◌, ◌||◌, ◌++◌, ◌∷◌, [], ℕ, List, Option, Some, None, Bool, true, false, not, cond, codes, refl, sym, ap, subst, map, fold}
+use Rattle.std.specs.Prelude.{Contains}
 use Rattle.std.specs.Str.{bytes_eq}
-use Rattle.std.proofs.lemmas.Bool.{and_parts, or_parts, or_from}
+use Rattle.std.proofs.lemmas.Bool.{or_parts}
 use Rattle.std.proofs.lemmas.List.{append_assoc, append-nil}
 use Rattle.clap.specs.Simple.{Shape, built}
 use Rattle.clap.specs.Takes.{settle_passes, turn_passes, walk_passes}
-use Rattle.clap.specs.Walk.{Rule, Text, Row, Walk, Held, walked, settled_rows, reading_by, at_row, with_values, more_values, without, has_row}
+use Rattle.clap.specs.Walk.{Rule, Text, Row, Walk, walked, settled_rows, reading_by, at_row, with_values, more_values, without, has_row}
 use Rattle.clap.specs.Walk.Waiting.{idle}
 use Rattle.clap.specs.declared.builder.value_parser.Reading.{Reading}
 use Rattle.clap.specs.declared.parser.matches.ValueSource.TheVariants.{CommandLine}
 use Rattle.clap.proofs.OnLiterals.{clap_on_literals}
-use Rattle.mp_words.specs.CommandLines.{Given, Word, plain, option, option_text, word_text, no_twins, names_in, options_in}
+use Rattle.mp_words.specs.CommandLines.{Given, Word, plain, option, option_text, word_text, no_twins, names_in}
 use Rattle.mp_words.specs.Modes.{all_options}
 use Rattle.mp_words.specs.Parsed.{app, mode_rule}
 use Rattle.mp_words.proofs.Names.{Each, each_of, has, twins_at}
@@ -111,7 +110,7 @@ OptionWalks name = (rows : List Row) (waits : Option (Text × List Text)) (posit
 
 option_walks : Each OptionWalks all_options
 unfolding clap_on_literals
-option_walks = (λ rows waits position value. refl, (λ rows waits position value. refl, (λ rows waits position value. refl, (λ rows waits position value. refl, tt))))
+option_walks = (λ rows waits position value. refl, (λ rows waits position value. refl, (λ rows waits position value. refl, (λ rows waits position value. refl, (λ rows waits position value. refl, (λ rows waits position value. refl, (λ rows waits position value. refl, (λ rows waits position value. refl, tt))))))))
 
 option_once : (settles there : Bool) → settles ≡ true → there ≡ false → ((settles && ((not there || false) && true)) && true) ≡ true
 option_once true true p h = cc
@@ -125,10 +124,7 @@ OptionPasses name = (rows : List Row) (waits : Option (Text × List Text)) (posi
 
 option_passes : Each OptionPasses all_options
 unfolding clap_on_literals
-option_passes = (
-  λ rows waits position value p h. option_once _ _ p h,
-  (λ rows waits position value p h. option_once _ _ p h, (λ rows waits position value p h. option_once _ _ p h, (λ rows waits position value p h. option_once _ _ p h, tt))),
-)
+option_passes = (λ rows waits position value p h. option_once _ _ p h, (λ rows waits position value p h. option_once _ _ p h, (λ rows waits position value p h. option_once _ _ p h, (λ rows waits position value p h. option_once _ _ p h, (λ rows waits position value p h. option_once _ _ p h, (λ rows waits position value p h. option_once _ _ p h, (λ rows waits position value p h. option_once _ _ p h, (λ rows waits position value p h. option_once _ _ p h, tt))))))))
 
 and_false : (b : Bool) → (b && false) ≡ false
 and_false true = refl

@@ -1,5 +1,5 @@
 -- Which words are a command line.
-use Rattle.std.specs.Prelude.{◌≡◌, ◌≢◌, ℕ, ◌&&◌, Bool, true, false, not, All, List, [], ◌∷◌, ◌++◌, map, Contains, Option, Some, None, codes, if◌then◌else◌}
+use Rattle.std.specs.Prelude.{◌≡◌, ◌≢◌, ℕ, ◌&&◌, Bool, true, not, All, List, [], ◌∷◌, ◌++◌, map, Contains, Option, Some, None, codes, if◌then◌else◌}
 use Rattle.std.specs.List.{list_any}
 use Rattle.std.specs.Str.{bytes_eq}
 use Rattle.mp_words.specs.declared.modes.Mode.{Mode}

@@ -1,5 +1,5 @@
 -- The command as `clap` knows it.
-use Rattle.std.specs.Prelude.{ℕ, List, [], ◌∷◌, Some, true, fold, codes}
+use Rattle.std.specs.Prelude.{ℕ, List, Some, true, fold, codes}
 use Rattle.clap.specs.Simple.{App, new_app, new_rule, on_top, with_rule}
 use Rattle.clap.specs.Walk.{Rule}
 use Rattle.mp_words.specs.Modes.{all_options}

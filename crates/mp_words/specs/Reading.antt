@@ -4,7 +4,7 @@ use Rattle.std.specs.Borrow.{Bor}
 use Rattle.mp_words.specs.declared.modes.Mode.{Mode}
 use Rattle.clap.specs.Matches.{first_value}
 use Rattle.clap.specs.declared.parser.matches.Found.{Found}
-use Rattle.mp_words.specs.Modes.{all_options, mode_word, options_of}
+use Rattle.mp_words.specs.Modes.{all_options, mode_word}
 use Rattle.mp_words.specs.CommandLines.{Given, Word, word_text, option_text, IsWord, plain_words, options_in, names_in, IsLine, value_of}
 
 abbrev pub texts : List (Bor (List ℕ)) → List (List ℕ)

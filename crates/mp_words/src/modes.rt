@@ -4,6 +4,9 @@
 pub enum Mode {
     Preprocess,
     Reconstruct,
+    Evaluate,
+    Workload,
+    Upgrade,
 }
 
 impl Mode {
@@ -17,6 +20,9 @@ impl Mode {
         match self {
             Mode::Preprocess => "preprocess",
             Mode::Reconstruct => "reconstruct",
+            Mode::Evaluate => "evaluate",
+            Mode::Workload => "workload",
+            Mode::Upgrade => "upgrade",
         }
     }
 
@@ -25,8 +31,11 @@ impl Mode {
         ensures { map (λ s. s.now) result.now ≡ options_of self }
     {
         match self {
-            Mode::Preprocess => &["techniques", "mapfile", "form"],
-            Mode::Reconstruct => &["mapfile", "values"],
+            Mode::Preprocess => &["techniques", "mapfile", "form", "merge", "mapversion"],
+            Mode::Reconstruct => &["mapfile", "original", "values"],
+            Mode::Evaluate => &["solution"],
+            Mode::Workload => &["techniques"],
+            Mode::Upgrade => &["mapfile"],
         }
     }
 }

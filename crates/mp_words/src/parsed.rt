@@ -41,7 +41,11 @@ fn command<'a>(alloc: Global) -> Result<Command<'a>, Error>
     let command = with(alloc, command, "techniques")?;
     let command = with(alloc, command, "mapfile")?;
     let command = with(alloc, command, "form")?;
+    let command = with(alloc, command, "merge")?;
+    let command = with(alloc, command, "mapversion")?;
+    let command = with(alloc, command, "original")?;
     let command = with(alloc, command, "values")?;
+    let command = with(alloc, command, "solution")?;
     Ok(command)
 }
 

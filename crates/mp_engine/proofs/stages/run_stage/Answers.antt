@@ -5,7 +5,7 @@ use Rattle.mp_engine.proofs.Stepped.{runs_stage}
 use Rattle.mp_engine.proofs.stages.run_stage.Goals as goal
 
 pub returns-clause-step : goal.returns-clause-step
-returns-clause-step c =
+returns-clause-step g c =
     let k : IsCounted (labelled_of c.run_letter.new.store) = record {
       clauses = omega (arith, c.counts-counts.ensures.clauses);
       literals = omega (arith, c.counts-counts.ensures.literals);

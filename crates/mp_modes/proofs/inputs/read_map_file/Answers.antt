@@ -2,7 +2,7 @@ use Rattle.mp_map.specs.declared.maps.MapFile.{MapFile}
 use Rattle.mp_modes.specs.ReconstructMode.{IsMapFault}
 use Rattle.mp_modes.specs.Reconstructing.{IsMapText}
 use Rattle.mp_modes.specs.declared.refusal.TextRefusal.TheVariants as texts
-use Rattle.mp_modes.proofs.Readings.{read_as, read_refused, unread_stops}
+use Rattle.mp_modes.proofs.Reading.{read_as, read_refused, unread_stops}
 use Rattle.mp_modes.proofs.inputs.read_map_file.Goals as goal
 
 pub returns-in-Err-clause-refused : goal.returns-in-Err-clause-refused

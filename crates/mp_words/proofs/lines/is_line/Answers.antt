@@ -1,10 +1,9 @@
-use Rattle.std.proofs.Common.{◌≡◌, ◌≤◌, ℕ, List, Bool, true, false, length, take, sym, ◌∙◌, ap, subst}
+use Rattle.std.proofs.Common.{◌≤◌, ℕ, List, Bool, sym, subst}
 use Rattle.std.proofs.lemmas.Bool.{true≢false}
 use Rattle.std.proofs.lemmas.List.{take_all}
 use Rattle.mp_words.specs.Modes.{options_of}
 use Rattle.mp_words.specs.Reading.{texts, Takes, AreRead}
-use Rattle.mp_words.proofs.Names.{true_not}
-use Rattle.mp_words.proofs.Readings.{read_more, not_line, line_of, line_parts, not_false}
+use Rattle.mp_words.proofs.Readings.{read_more, not_line, line_of, line_parts}
 use Rattle.mp_words.proofs.lines.is_line.Goals as goal
 
 pub returns-then-not-branch : goal.returns-then-not-branch

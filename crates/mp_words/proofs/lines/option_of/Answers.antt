@@ -1,8 +1,8 @@
-use Rattle.std.proofs.Common.{◌≡◌, ◌<◌, ◌≤◌, ℕ, List, length, Some, sym, ◌∙◌, ap, subst}
+use Rattle.std.proofs.Common.{◌≤◌, ℕ, List, length, sym, ◌∙◌, ap, subst}
 use Rattle.std.specs.Prelude.{slice_get}
 use Rattle.std.proofs.lemmas.Bool.{true≢false}
 use Rattle.std.proofs.lemmas.List.{length-map}
-use Rattle.mp_words.specs.Reading.{texts, HasValue, IsOption}
+use Rattle.mp_words.specs.Reading.{texts, IsOption}
 use Rattle.mp_words.proofs.Readings.{option_found, option_none, option_next}
 use Rattle.mp_words.proofs.lines.option_of.Goals as goal
 

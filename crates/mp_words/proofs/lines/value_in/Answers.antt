@@ -1,4 +1,3 @@
-use Rattle.std.proofs.Common.{ℕ, List}
 use Rattle.mp_words.proofs.Readings.{none_then, no_sign}
 use Rattle.mp_words.proofs.lines.value_in.Goals as goal
 

@@ -1,5 +1,5 @@
-use Rattle.std.proofs.Common.{rules, ◌≡◌, ◌∙◌, ap, ap₂, codes, true}
-use Rattle.clap.specs.Simple.{App, Shape, app_of, app_of_fields, on_top, with_rule}
+use Rattle.std.proofs.Common.{rules, ◌≡◌, ◌∙◌, ap, ap₂, true}
+use Rattle.clap.specs.Simple.{Shape, app_of, app_of_fields, on_top, with_rule}
 use Rattle.clap.specs.Walk.{rule_of}
 use Rattle.mp_words.specs.Parsed.{mode_rule, operand_rule, bare_app}
 use Rattle.mp_words.proofs.parsed.plain_command.Goals as goal

@@ -1,0 +1,23 @@
+use Rattle.std.proofs.Common.{◌≡◌, ◌∙◌, List, ℕ, Some, ap, subst}
+use Rattle.std.specs.Prelude.{Option, IfSome}
+use Rattle.clap.specs.Words.{found_of}
+use Rattle.clap.specs.declared.parser.matches.ArgMatches.{ArgMatches}
+use Rattle.mp_words.specs.declared.modes.Mode.TheVariants as modes
+use Rattle.mp_words.specs.Reading.{IsMatched}
+use Rattle.mp_words.proofs.Chosen.{upgrade_some, upgrade_map}
+use Rattle.mp_words.proofs.asked.read_upgrade.Goals as goal
+
+pub returns-in_default-get_str-clause-none : goal.returns-in_default-get_str-clause-none
+returns-in_default-get_str-clause-none c =
+    let m : IsMatched modes.Upgrade c.args.words.now (found_of c.in-Some.matches) =
+    subst (λ (o : Option ArgMatches). IfSome o (λ m. IsMatched modes.Upgrade c.args.words.now (found_of m))) c.in-Some.is c.in_ok-matches.ensures.some in
+    upgrade_map c.args.words.now (found_of c.in-Some.matches) m c.in_default-get_str.ensures
+
+pub returns-clause-some : goal.returns-clause-some
+returns-clause-some c =
+    let m : IsMatched modes.Upgrade c.args.words.now (found_of c.in-Some.matches) =
+    subst (λ (o : Option ArgMatches). IfSome o (λ m. IsMatched modes.Upgrade c.args.words.now (found_of m))) c.in-Some.is c.in_ok-matches.ensures.some in
+    upgrade_some c.args.words.now (found_of c.in-Some.matches) m _ _ (c.in_ok-file.ensures ∙ c.value_or.ensures) (some_same _ _ c.in_ok-map.ensures ∙ c.in-Some-get_str.ensures)
+  where
+    some_same : (x y : List ℕ) → x ≡ y → Some x ≡ Some y
+    some_same x y e = ap (λ (t : List ℕ). Some t) e
