@@ -1,0 +1,11 @@
+//! What a technique remembers of a store in which no candidate of it admitted a change, so that a later run can pass over
+//! those that nothing has touched since.
+//!
+//! `Seen` holds which ids there were, and how many clauses each literal had. Ids keep their clauses for good, so a list of
+//! clauses that has as many of the old ids as then has all of them (`HasKept` of `specs/Resting`), and one without a newer id
+//! has gained none. It stands on `mp_logic`, `mp_clauses` and `mp_store`.
+#![tactic(auto)]
+
+mod seen;
+
+pub use seen::{Seen, below};
