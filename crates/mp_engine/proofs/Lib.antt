@@ -23,3 +23,4 @@ pub mod AlikePairs
 pub mod AlikeFailed
 pub mod AlikeProbes
 pub mod Moved
+pub mod Rested

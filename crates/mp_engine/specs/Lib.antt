@@ -6,3 +6,4 @@ pub mod Bounds
 pub mod Laws
 pub mod LogText
 pub mod Alike
+pub mod Rests

@@ -1,27 +1,29 @@
-ghost use Rattle.std.specs.Prelude.{◌≡◌, ◌+◌, ◌≤◌, ℕ, Some, false, IfOk};
+ghost use Rattle.std.specs.Prelude.{◌≡◌, ◌+◌, ◌≤◌, ℕ, Some, false, IfOk, OnOk};
 ghost use Rattle.mp_script.specs.Grammar.{IsStageInRange};
 ghost use Rattle.mp_store.specs.Held.{labelled_of};
 ghost use Rattle.t_probe.specs.Hardening.{IsHardened};
 ghost use Rattle.t_probe.specs.Oracles.{IsSound};
 ghost use Rattle.mp_engine.specs.Letters.{kind_of};
+ghost use Rattle.mp_engine.specs.Rests.{AreRested};
 ghost use Rattle.mp_engine.specs.Stages.{learning_budget};
 ghost use Rattle.mp_engine.specs.Stores.{asked_ending_of, ending_of, HasStepped};
 
 use crate::done::StageEnding;
+use crate::rests::Rests;
 use core_solver::{Query, Verdict};
 use mp_logic::{NoMemory, Weight};
 use mp_script::{Letter, Stage};
 use mp_store::{Ending, Ran, Store};
 use std::alloc::Global;
 use t_amo::at_most_ones;
-use t_blocked::blocked;
-use t_elim::eliminate;
+use t_blocked::blocked_again;
+use t_elim::eliminate_again;
 use t_equiv::equivalences;
 use t_failed::{failed, pairs};
 use t_labels::{covered, group_covered};
 use t_matching::{binary_cores, matched};
 use t_probe::{Oracle, ProbeEnding, Probed, harden, pair_cores, trim};
-use t_subsume::{strengthen, subsume};
+use t_subsume::{strengthen_again, subsume_again};
 use t_units::units;
 
 /// How a stage ended, and whether it changed anything.
@@ -91,20 +93,33 @@ pub fn run_letter<F: Fn(Global, &Query) -> Result<Verdict, NoMemory>>(
     store: &mut Store,
     stage: Stage,
     oracle: &Oracle<F>,
+    rests: &mut Rests,
 ) -> Result<Step, NoMemory>
     requires oracle { IsSound F.pre F.post oracle.now }
     requires unrefuted { store.old.refuted ≡ false }
     requires budget { IsStageInRange stage }
-    ensures { IfOk result (λ step. HasStepped (kind_of stage.letter) stage.budget store.old store.new step.ending step.changed) }
+    requires rested { AreRested rests.old store.old }
+    ensures rested { OnOk result (AreRested rests.new store.new) }
+    ensures step { IfOk result (λ step. HasStepped (kind_of stage.letter) stage.budget store.old store.new step.ending step.changed) }
 {
     match stage.letter {
         Letter::U => Ok(turned(units(alloc, store, stage.budget)?)),
         Letter::F => Ok(turned(failed(alloc, store, stage.budget)?)),
         Letter::P => Ok(turned(pairs(alloc, store, stage.budget)?)),
-        Letter::B => Ok(turned(blocked(alloc, store, stage.budget)?)),
-        Letter::S => Ok(turned(subsume(alloc, store, stage.budget)?)),
-        Letter::R => Ok(turned(strengthen(alloc, store, stage.budget)?)),
-        Letter::V => Ok(turned(eliminate(alloc, store, stage.budget)?)),
+        Letter::B => Ok(turned(blocked_again(alloc, store, stage.budget, &mut rests.blocked)?)),
+        Letter::S => Ok(turned(subsume_again(alloc, store, stage.budget, &mut rests.subsumed)?)),
+        Letter::R => Ok(turned(strengthen_again(
+            alloc,
+            store,
+            stage.budget,
+            &mut rests.strengthened,
+        )?)),
+        Letter::V => Ok(turned(eliminate_again(
+            alloc,
+            store,
+            stage.budget,
+            &mut rests.eliminated,
+        )?)),
         Letter::E => Ok(turned(equivalences(alloc, store, stage.budget)?)),
         Letter::L => Ok(turned(covered(alloc, store, stage.budget)?)),
         Letter::Gr => Ok(turned(group_covered(alloc, store, stage.budget)?)),

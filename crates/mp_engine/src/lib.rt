@@ -14,6 +14,7 @@ mod laws;
 mod letters;
 mod log;
 mod loops;
+mod rests;
 mod running;
 mod sequences;
 mod stages;

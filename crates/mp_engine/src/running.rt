@@ -10,6 +10,7 @@ ghost use Rattle.mp_engine.specs.declared.done.Close.TheVariants.{Refuted};
 
 use crate::done::{Close, Done, StageLines};
 use crate::groups::run_group;
+use crate::rests::Rests;
 use core_solver::{Query, Verdict};
 use mp_labels::Labelled;
 use mp_logic::{Copied, Limits, ListOf, NoMemory};
@@ -59,10 +60,11 @@ pub fn run_from_labelled<F: Fn(Global, &Query) -> Result<Verdict, NoMemory>>(
     // what holds of each labelled state begins the chain of what the run keeps
     let _vars = labelled.vars;
     let mut store = Store::from_labelled(alloc, labelled, limits)?;
+    let mut rests = Rests::new(alloc);
     let mut lines = ListOf::new(alloc);
     let mut close = Close::Single;
     for group in script.items() {
-        close = run_group(alloc, &mut store, group, oracle, &mut lines)?;
+        close = run_group(alloc, &mut store, group, oracle, &mut rests, &mut lines)?;
     }
     finish(alloc, store, lines, close)
 }

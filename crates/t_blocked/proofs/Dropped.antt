@@ -1,5 +1,5 @@
 -- Dropping a blocked clause.
-use Rattle.std.proofs.Common.{◌≡◌, ◌≢◌, ◌⊎◌, ℕ, ◌+◌, ◌*◌, ◌-◌, ◌<◌, ◌≤◌, Bool, true, false, cond, List, [], ◌∷◌, ◌++◌, length, get_or, drop, refl, sym, ◌∙◌, ap, subst, arith, sum_by, inl, inr, Contains, All, IsTrue, append_assoc, add-one, drop-cons}
+use Rattle.std.proofs.Common.{◌≡◌, ◌⊎◌, ℕ, ◌+◌, ◌*◌, ◌-◌, ◌<◌, ◌≤◌, Bool, true, false, cond, List, [], ◌∷◌, ◌++◌, length, get_or, drop, refl, sym, ◌∙◌, ap, subst, arith, sum_by, inl, inr, Contains, All, IsTrue, append_assoc, add-one, drop-cons}
 use Rattle.std.specs.Prelude.{Option, Some, None, IfSome, is_some, ◌==◌, ◌&&◌}
 use Rattle.std.specs.List.{find}
 use Rattle.std.specs.List.Sorted.{IsStrictlyIncreasing}
@@ -59,7 +59,7 @@ literal-within : (h : Held) (c : List Literal) (l : Literal) → IsStore h → C
 literal-within h c l s m i = All-contains (IsUpTo h.vars) c l (live-within h c s m) i
 
 -- the test
-blocks-blocked : (h : Held) (c : List Literal) (l : Literal) → blocks h c l ≡ true → IsNoCost l (costs_of h.weights) × IsBlocked l c (live_clauses h.slots)
+pub blocks-blocked : (h : Held) (c : List Literal) (l : Literal) → blocks h c l ≡ true → IsNoCost l (costs_of h.weights) × IsBlocked l c (live_clauses h.slots)
 blocks-blocked h c l t =
     let parts = and_parts (weight_in h.weights l == 0) (all_clash l.variable c h.slots (ids_with (place_of (negation l)) h.slots)) t in (
       free-literal h.weights l (eqb-true (weight_in h.weights l) 0 parts.0),
@@ -77,7 +77,7 @@ beside-clash c d l vs normal own k =
     ])
     k.1 k.3
 
-not-blocks : (h : Held) (c : List Literal) → IsStore h → Contains (live_clauses h.slots) c → ((l : Literal) → Contains c l → blocks h c l ≡ false) → IsUnblocked (costs_of h.weights) (live_clauses h.slots) c
+pub not-blocks : (h : Held) (c : List Literal) → IsStore h → Contains (live_clauses h.slots) c → ((l : Literal) → Contains c l → blocks h c l ≡ false) → IsUnblocked (costs_of h.weights) (live_clauses h.slots) c
 not-blocks h c s m misses l own free =
     let z : (weight_in h.weights l == 0) ≡ true = eq-eqb (weight_in h.weights l) 0 (free-weight h.weights l free) in
     let f : all_clash l.variable c h.slots (ids_with (place_of (negation l)) h.slots) ≡ false = sym (ap (λ b. b && all_clash l.variable c h.slots (ids_with (place_of (negation l)) h.slots)) z) ∙ misses l own in
@@ -244,13 +244,6 @@ find-step p us i u all h e k =
       λ t. sym was ∙ ap (λ b. cond b (Some u) (find p (drop (i + 1) us))) t,
       λ f. sym (ap (λ b. cond b (Some u) (find p (drop (i + 1) us))) f) ∙ was,
     )
-
--- the clause in hand is one of the store
-pub held-within : (h : Held) (id : ℕ) (c hand : List Literal) → IsStore h → Some c ≡ clause_of h.slots id → hand ≡ c → All (IsUpTo h.vars) hand
-held-within h id c hand s e f = subst (All (IsUpTo h.vars)) (sym f) (live-within h c s (live-at h.slots id c (sym e)))
-
-pub held-live : (h : Held) (id : ℕ) (c hand : List Literal) → Some c ≡ clause_of h.slots id → hand ≡ c → clause_of h.slots id ≡ Some hand
-held-live h id c hand e f = sym e ∙ ap (λ x. Some x) (sym f)
 
 -- the technique by turns
 none_some : {X : Type 0} (o : Option X) (x : X) → o ≡ None → o ≡ Some x → ⊥

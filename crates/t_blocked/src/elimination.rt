@@ -7,21 +7,28 @@
 //! one of its literals: they are looked up in a table of the clause's own literals, up to the first that keeps it from being
 //! blocked, and nothing is allocated for it. A clause can become blocked only where one of the clauses that keep it from
 //! being blocked goes, so only those with the negation of a dropped literal are queued again.
-ghost use Rattle.std.specs.Prelude.{◌≡◌, ◌≤◌, ◌+◌, ◌++◌, IfOk, IfSome, OnOk, OnErr, All, Contains, true, false, Some, length};
+//!
+//! For the same reason a later run passes over a literal where none of these clauses has gone since: what was remembered of
+//! the store after an earlier run tells, without a look at them.
+ghost use Rattle.std.specs.Prelude.{◌≡◌, ◌≤◌, ◌+◌, ◌++◌, IfOk, IfSome, OnOk, OnErr, All, Contains, List, true, false, Some, length};
 ghost use Rattle.std.specs.List.{find};
-ghost use Rattle.mp_logic.specs.Literal.{IsUpTo, negation};
+ghost use Rattle.mp_logic.specs.Literal.{Literal, IsUpTo, negation};
 ghost use Rattle.mp_clauses.specs.Places.{place_of};
 ghost use Rattle.mp_clauses.specs.Slots.{clause_of, is_live, live_clauses};
 ghost use Rattle.mp_store.specs.Held.{IsUntouched};
 ghost use Rattle.mp_store.specs.Clashing.{all_clash};
 ghost use Rattle.mp_clauses.specs.Occurrences.{ids_with};
+ghost use Rattle.mp_clauses.specs.Weighing.{weight_in};
 ghost use Rattle.mp_store.specs.Rewriting.{after};
 ghost use Rattle.mp_store.specs.Techniques.{IsRun, IsAnswer, KeepsIds};
-ghost use Rattle.t_blocked.specs.BlockedClauses.{blocked_clauses};
+ghost use Rattle.mp_turns.specs.Underway.{StaysWithin};
+ghost use Rattle.mp_resting.specs.Resting.{IsRested};
+ghost use Rattle.t_blocked.specs.BlockedClauses.{blocked_clauses, blocking};
 ghost use Rattle.t_blocked.specs.Dropping.{blocks, AreNear, near_in, dropping_of};
 
 use mp_logic::{ListOf, Lit, NoMemory};
-use mp_store::{ClauseId, LiteralSet, Ran, Store, repair_setting};
+use mp_resting::Seen;
+use mp_store::{ClauseId, Ending, LiteralSet, Ran, Store, repair_setting};
 use mp_turns::{Items, Turn, Turned, live_clause_ids, replace, run_turns};
 use std::alloc::Global;
 
@@ -35,27 +42,70 @@ pub fn blocked(alloc: Global, store: &mut Store, budget: Option<u64>) -> Result<
     ensures turns { IfSome budget (λ b. length (live_clauses store.old.slots) ≤ length (live_clauses store.new.slots) + b) }
     ensures answer { IfOk result (λ ran. IsAnswer blocked_clauses budget store.old store.new ran) }
 {
+    let seen = Seen::new(alloc);
+    take_turns(alloc, store, budget, &seen)
+}
+
+/// The same, given what is remembered of an earlier store in which no clause was blocked. Each turn does as it would without
+/// that, but costs no more than a look-up for a literal whose negation has lost no clause since. Where no clause is blocked
+/// at the end, `seen` tells of the store then, which takes a number for each literal; else it stays as it was.
+pub fn blocked_again(
+    alloc: Global,
+    store: &mut Store,
+    budget: Option<u64>,
+    seen: &mut Seen,
+) -> Result<Ran, NoMemory>
+    requires unrefuted { store.old.refuted ≡ false }
+    requires rested { IsRested blocking.IsIdle seen.old store.old }
+    ensures run { IsRun blocked_clauses.LeavesAlone store.old store.new }
+    ensures ids { KeepsIds store.old store.new }
+    ensures turns { IfSome budget (λ b. length (live_clauses store.old.slots) ≤ length (live_clauses store.new.slots) + b) }
+    ensures answer { IfOk result (λ ran. IsAnswer blocked_clauses budget store.old store.new ran) }
+    ensures rested { OnOk result (IsRested blocking.IsIdle seen.new store.new) }
+{
+    let ran = take_turns(alloc, store, budget, seen)?;
+    if matches!(ran.ending, Ending::Finished) && !store.refuted() {
+        *seen = Seen::clauses(alloc, store)?;
+    }
+    Ok(ran)
+}
+
+/// The turns, with what is remembered.
+fn take_turns(
+    alloc: Global,
+    store: &mut Store,
+    budget: Option<u64>,
+    seen: &Seen,
+) -> Result<Ran, NoMemory>
+    requires unrefuted { store.old.refuted ≡ false }
+    requires rested { IsRested blocking.IsIdle seen.now store.old }
+    ensures run { IsRun blocked_clauses.LeavesAlone store.old store.new }
+    ensures stays { StaysWithin blocking budget store.old store.new }
+    ensures answer { IfOk result (λ ran. IsAnswer blocked_clauses budget store.old store.new ran) }
+{
     let mut turn = Blocking {
         hand: LiteralSet::new(alloc),
         near: Vec::new(alloc),
+        seen,
     };
     run_turns(alloc, store, &mut turn, budget)
 }
 
-/// The literals of the clause whose turn it is, and the ids of the clauses near it.
+/// The literals of the clause whose turn it is, the ids of the clauses near it, and what is remembered.
 #[derive(Drop)]
-struct Blocking {
+struct Blocking<'a> {
     hand: LiteralSet,
     near: Vec<ClauseId>,
+    seen: &'a Seen,
 }
 
-impl Turn for Blocking {
-    ghost use Rattle.std.specs.Prelude.{⊤};
+impl<'a> Turn for Blocking<'a> {
+    ghost use Rattle.mp_resting.specs.Resting.{IsRested};
     ghost use Rattle.t_blocked.specs.BlockedClauses.{blocking};
 
     ghost turning = { blocking };
 
-    ghost fits = { λ t h. ⊤ };
+    ghost fits = { λ t h. IsRested blocking.IsIdle t.seen.now h };
 
     fn candidates(&self, alloc: Global, store: &Store) -> Result<Items, NoMemory> {
         live_clause_ids(alloc, store)
@@ -74,8 +124,9 @@ impl Turn for Blocking {
         if !store.live(id) {
             return Ok(Turned::Idle);
         }
-        self.hand.hold(store.clause(id))?;
-        let Some(lit) = blocking_literal(store, &self.hand) else {
+        let clause = store.clause(id);
+        let found = blocking_literal(store, self.seen, id, clause, &mut self.hand)?;
+        let Some(lit) = found else {
             return Ok(Turned::Idle);
         };
         find_near(store, &self.hand, &mut self.near)?;
@@ -109,25 +160,62 @@ fn drop_clause(
     Ok(())
 }
 
-/// The lowest literal without cost on which the clause in hand is blocked.
-fn blocking_literal(store: &Store, hand: &LiteralSet) -> Option<Lit>
-    requires { All (IsUpTo store.now.vars) hand.now }
-    ensures { result ≡ find (blocks store.now hand.now) hand.now }
+/// The lowest literal without cost on which the clause is blocked; the clause is in hand then.
+fn blocking_literal(
+    store: &Store,
+    seen: &Seen,
+    id: ClauseId,
+    clause: &[Lit],
+    hand: &mut LiteralSet,
+) -> Result<Option<Lit>, NoMemory>
+    requires within { All (IsUpTo store.now.vars) clause.now }
+    requires live { clause_of store.now.slots id ≡ Some clause.now }
+    requires rested { IsRested blocking.IsIdle seen.now store.now }
+    ensures lit { IfOk result (λ found. found ≡ find (blocks store.now clause.now) clause.now) }
+    ensures hand { IfOk result (λ found. IfSome found (λ lit. hand.new ≡ clause.now)) }
 {
-    for lit in hand.literals() {
-        if blocks(store, hand, *lit) {
-            return Some(*lit);
+    let mut is_held = false;
+    for lit in clause {
+        if !needs_look(store, seen, id, *lit) {
+            continue;
+        }
+        hold_once(hand, clause, is_held)?;
+        is_held = true;
+        if is_blocked_on(store, hand, *lit) {
+            return Ok(Some(*lit));
         }
     }
-    None
+    Ok(None)
 }
 
-/// Whether the literal has no cost and the clause in hand is blocked on it.
-fn blocks(store: &Store, hand: &LiteralSet, lit: Lit) -> bool
-    requires { lit.variable ≤ store.now.vars }
-    ensures { result ≡ blocks store.now hand.now lit }
+/// Holds the clause, unless it is held already.
+fn hold_once(hand: &mut LiteralSet, clause: &[Lit], is_held: bool) -> Result<(), NoMemory>
+    requires { is_held ≡ true → hand.old ≡ clause.now }
+    ensures { OnOk result (hand.new ≡ clause.now) }
 {
-    store.weight(lit) == 0 && is_blocked_on(store, hand, lit)
+    if is_held {
+        return Ok(());
+    }
+    hand.hold(clause)
+}
+
+/// Whether the clause of the id could be blocked on the literal, for all that the weights and what is remembered tell.
+fn needs_look(store: &Store, seen: &Seen, id: ClauseId, lit: Lit) -> bool
+    requires within { IsUpTo store.now.vars lit }
+    requires rested { IsRested blocking.IsIdle seen.now store.now }
+    ensures free { result ≡ true → weight_in store.now.weights lit ≡ 0 }
+    ensures idle { result ≡ false → (c : List Literal) → clause_of store.now.slots id ≡ Some c → Contains c lit → blocks store.now c lit ≡ false }
+{
+    store.weight(lit) == 0 && !rests(store, seen, id, lit)
+}
+
+/// Whether the clause of the id was there when no clause was blocked, and none with the negation of the literal has gone since.
+fn rests(store: &Store, seen: &Seen, id: ClauseId, lit: Lit) -> bool
+    requires within { IsUpTo store.now.vars lit }
+    requires rested { IsRested blocking.IsIdle seen.now store.now }
+    ensures { result ≡ true → (c : List Literal) → clause_of store.now.slots id ≡ Some c → Contains c lit → blocks store.now c lit ≡ false }
+{
+    id < seen.mark && seen.has_kept(store, lit.negated())
 }
 
 /// Whether each clause with the negation of the literal clashes with the clause in hand on another variable.

@@ -1,19 +1,21 @@
 -- Counts by id are counts over the clauses with a literal.
-use Rattle.std.proofs.Common.{◌≡◌, ◌↔◌, IsTrue, ℕ, ◌+◌, ◌*◌, ◌≤◌, true, false, not, cond, List, [], ◌∷◌, length, get_or, suc, refl, ◌∙◌, ap, arith, sum_by}
+use Rattle.std.proofs.Common.{◌≡◌, ◌↔◌, IsTrue, ℕ, ◌+◌, ◌-◌, ◌*◌, ◌<◌, ◌≤◌, Bool, true, false, not, cond, List, [], ◌∷◌, ◌++◌, length, get_or, drop, drop-cons, suc, refl, sym, ◌∙◌, ap, subst, arith, sum_by, Contains}
 use Rattle.std.specs.Prelude.{Option, Some, None}
 use Rattle.std.specs.List.{filter, count_by}
-use Rattle.std.proofs.Math.Nat.{suc-mul}
+use Rattle.std.proofs.Math.Nat.{suc-mul, mul_comm}
 use Rattle.std.proofs.lemmas.List.{length-append}
 use Rattle.std.proofs.lemmas.List.Elements.{All-contains}
 use Rattle.std.proofs.lemmas.List.Sums.{sum_by-cons}
-use Rattle.mp_logic.specs.Literal.{Literal}
+use Rattle.mp_logic.specs.Literal.{Literal, negation}
+use Rattle.mp_logic.proofs.Literals.{negation-negation}
 use Rattle.mp_clauses.specs.Places.{place_of, has}
 use Rattle.mp_clauses.specs.Slots.{clause_of, live_clauses, is_live}
 use Rattle.mp_store.specs.Clashing.{clash_beside}
 use Rattle.mp_clauses.specs.Occurrences.{ids_where, slot_has, ids_with}
 use Rattle.mp_store.specs.Replacing.{slot_worth, worth_of}
 use Rattle.mp_store.proofs.Replaced.{sum-ones, worth-live}
-use Rattle.mp_store.proofs.Clashes.{ids-live}
+use Rattle.mp_store.proofs.Clashes.{ids-live, clash-found, clash-by}
+use Rattle.mp_clauses.proofs.Found.{both-ways}
 use Rattle.t_elim.specs.Resolving.{resolvent, slot_resolvent, resolvents_with, slot_resolvents, resolvents_of}
 use Rattle.t_elim.specs.Eliminating.{positive, negative_of, having, resolvents, PaysOff}
 
@@ -100,9 +102,90 @@ resolvents-most v slots [] js = omega arith
 resolvents-most v slots (i ∷ is) js =
     omega (arith, length-append (slot_resolvents v (clause_of slots i) slots js) (resolvents_of v slots is js), slot-most v (clause_of slots i) slots js, resolvents-most v slots is js, suc-mul (length is) (length js))
 
--- where there are no more pairs than clauses, there are no more resolvents
-pub worth-without-count : (v : ℕ) (slots : List (Option (List Literal))) (is js : List ℕ) (pairs : ℕ) → pairs ≡ length is * length js → pairs ≤ 256 → pairs ≤ length is + length js
-    → IsTrue true ↔ (length is * length js ≤ 256) × (length (resolvents_of v slots is js) ≤ length is + length js)
-worth-without-count v slots is js pairs e few less =
-    let most = resolvents-most v slots is js in
-    (λ t. (omega (arith, e, few), omega (arith, e, less, most)), λ p. refl)
+-- where no more pairs are ahead than resolvents are left, there are no more resolvents than clauses
+pub worth-without-rest : (v : ℕ) (slots : List (Option (List Literal))) (is js rest : List ℕ) (pairs ahead left : ℕ) → pairs ≡ length is * length js → pairs ≤ 256 → ahead ≡ length rest * length js → ahead ≤ left
+    → left + length (resolvents_of v slots is js) ≡ length is + length js + length (resolvents_of v slots rest js) → IsTrue true ↔ (length is * length js ≤ 256) × (length (resolvents_of v slots is js) ≤ length is + length js)
+worth-without-rest v slots is js rest pairs ahead left e few a less counted =
+    let most = resolvents-most v slots rest js in
+    (λ t. (omega (arith, e, few), omega (arith, a, less, most, counted)), λ p. refl)
+
+-- the pairs ahead after one clause
+pub ahead-step : (xs ys : List ℕ) (i ahead : ℕ) → i < length xs → ahead ≡ length (drop i xs) * length ys → ahead - length ys ≡ length (drop (i + 1) xs) * length ys
+ahead-step xs ys i ahead lt e =
+    let next : suc i ≡ i + 1 = omega arith in
+    let size : length (drop i xs) ≡ suc (length (drop (suc i) xs)) = ap (λ (zs : List ℕ). length zs) (drop-cons xs i 0 lt) in
+    let all : ahead ≡ suc (length (drop (suc i) xs)) * length ys = e ∙ ap (λ n. n * length ys) size in
+    let more = suc-mul (length (drop (suc i) xs)) (length ys) in
+    let left : ahead - length ys ≡ length (drop (suc i) xs) * length ys = omega (arith, all, more) in
+    left ∙ ap (λ n. length (drop n xs) * length ys) next
+
+-- the resolvents left after one clause
+pub left-step : (v : ℕ) (slots : List (Option (List Literal))) (is js : List ℕ) (hand c : List Literal) (i before after all clauses : ℕ) → i < length is → Some c ≡ clause_of slots (get_or is i 0) → hand ≡ c → after + length (resolvents_with v hand slots js) ≡ before
+    → before + all ≡ clauses + length (resolvents_of v slots (drop i is) js) → after + all ≡ clauses + length (resolvents_of v slots (drop (i + 1) is) js)
+left-step v slots is js hand c i before after all clauses lt at held took counted =
+    let next : suc i ≡ i + 1 = omega arith in
+    let here : length (slot_resolvents v (clause_of slots (get_or is i 0)) slots js) ≡ length (resolvents_with v hand slots js) = ap (λ o. length (slot_resolvents v o slots js)) (sym at) ∙ ap (λ x. length (resolvents_with v x slots js)) (sym held) in
+    let split : length (resolvents_of v slots (drop i is) js) ≡ length (slot_resolvents v (clause_of slots (get_or is i 0)) slots js ++ resolvents_of v slots (drop (suc i) is) js) = ap (λ zs. length (resolvents_of v slots zs js)) (drop-cons is i 0 lt) in
+    let parts = length-append (slot_resolvents v (clause_of slots (get_or is i 0)) slots js) (resolvents_of v slots (drop (suc i) is) js) in
+    let left : after + all ≡ clauses + length (resolvents_of v slots (drop (suc i) is) js) = omega (arith, here, split, parts, took, counted) in
+    left ∙ ap (λ n. clauses + length (resolvents_of v slots (drop n is) js)) next
+
+-- there are as many the other way round
+clash-turned : (v : ℕ) (c d : List Literal) → clash_beside v c d ≡ true → clash_beside v d c ≡ true
+clash-turned v c d t =
+    let w = clash-found v c d t in
+    clash-by v d c (negation w.0) w.1 w.3 (subst (Contains c) (sym (negation-negation w.0)) w.2)
+
+fitting-turned : (v : ℕ) (c d : List Literal) → fitting v c d ≡ fitting v d c
+fitting-turned v c d = ap (λ b. cond (not b) 1 0) (both-ways (clash_beside v c d) (clash_beside v d c) (clash-turned v c d) (clash-turned v d c))
+
+abbrev pair : ℕ → Option (List Literal) → Option (List Literal) → ℕ
+pair v o p = slot_worth (λ c. slot_worth (fitting v c) p) o
+
+pair-turned : (v : ℕ) (o p : Option (List Literal)) → pair v o p ≡ pair v p o
+pair-turned v None None = refl
+pair-turned v None (Some d) = refl
+pair-turned v (Some c) None = refl
+pair-turned v (Some c) (Some d) = fitting-turned v c d
+
+sum-nothing : (xs : List ℕ) → sum_by (λ (x : ℕ). 0) xs ≡ 0
+sum-nothing [] = refl
+sum-nothing (x ∷ xs) = omega (arith, sum-nothing xs, sum_by-cons (λ (x : ℕ). 0) x xs)
+
+sum-both : (f g : ℕ → ℕ) (xs : List ℕ) → sum_by (λ x. f x + g x) xs ≡ sum_by f xs + sum_by g xs
+sum-both f g [] = refl
+sum-both f g (x ∷ xs) = omega (arith, sum-both f g xs, sum_by-cons (λ x. f x + g x) x xs, sum_by-cons f x xs, sum_by-cons g x xs)
+
+sum-turned : (f : ℕ → ℕ → ℕ) (is js : List ℕ) → sum_by (λ i. sum_by (λ j. f i j) js) is ≡ sum_by (λ j. sum_by (λ i. f i j) is) js
+sum-turned f [] js = sym (sum-nothing js)
+sum-turned f (i ∷ is) js =
+    let rest = sum-turned f is js in
+    let own = sum_by-cons (λ i. sum_by (λ j. f i j) js) i is in
+    let both = sum-both (λ j. f i j) (λ j. sum_by (λ i. f i j) is) js in
+    let each = sum-same (λ j. sum_by (λ i. f i j) (i ∷ is)) (λ j. f i j + sum_by (λ i. f i j) is) js (λ j. sum_by-cons (λ i. f i j) i is) in
+    omega (arith, rest, own, both, each)
+
+slot-pairs : (v : ℕ) (o : Option (List Literal)) (slots : List (Option (List Literal))) (js : List ℕ) → slot_worth (λ c. length (resolvents_with v c slots js)) o ≡ sum_by (λ j. pair v o (clause_of slots j)) js
+slot-pairs v None slots js = sym (sum-nothing js)
+slot-pairs v (Some c) slots js = with-count v c slots js
+
+of-pairs : (v : ℕ) (slots : List (Option (List Literal))) (is js : List ℕ) → length (resolvents_of v slots is js) ≡ sum_by (λ i. sum_by (λ j. pair v (clause_of slots i) (clause_of slots j)) js) is
+of-pairs v slots is js =
+    of-count v slots is js ∙ sum-same (λ i. slot_worth (λ c. length (resolvents_with v c slots js)) (clause_of slots i)) (λ i. sum_by (λ j. pair v (clause_of slots i) (clause_of slots j)) js) is (λ i. slot-pairs v (clause_of slots i) slots js)
+
+resolvents-turned : (v : ℕ) (slots : List (Option (List Literal))) (is js : List ℕ) → length (resolvents_of v slots is js) ≡ length (resolvents_of v slots js is)
+resolvents-turned v slots is js =
+    let f : ℕ → ℕ → ℕ = λ i j. pair v (clause_of slots i) (clause_of slots j) in
+    let g : ℕ → ℕ → ℕ = λ j i. pair v (clause_of slots j) (clause_of slots i) in
+    let turned : sum_by (λ j. sum_by (λ i. f i j) is) js ≡ sum_by (λ j. sum_by (λ i. g j i) is) js =
+    sum-same (λ j. sum_by (λ i. f i j) is) (λ j. sum_by (λ i. g j i) is) js (λ j. sum-same (λ i. f i j) (λ i. g j i) is (λ i. pair-turned v (clause_of slots i) (clause_of slots j))) in
+    of-pairs v slots is js ∙ (sum-turned f is js ∙ (turned ∙ sym (of-pairs v slots js is)))
+
+pub worth-turned : (v : ℕ) (slots : List (Option (List Literal))) (is js : List ℕ) (b : Bool) → IsTrue b ↔ (length is * length js ≤ 256) × (length (resolvents_of v slots is js) ≤ length is + length js)
+    → IsTrue b ↔ (length js * length is ≤ 256) × (length (resolvents_of v slots js is) ≤ length js + length is)
+worth-turned v slots is js b w =
+    let pairs = mul_comm (length is) (length js) in
+    let made = resolvents-turned v slots is js in (
+      λ t. let p = w.0 t in let few = p.0 in let less = p.1 in (omega (arith, few, pairs), omega (arith, less, made)),
+      λ p. let few = p.0 in let less = p.1 in w.1 (omega (arith, few, pairs), omega (arith, less, made)),
+    )

@@ -5,3 +5,5 @@ pub mod KeptElimination
 pub mod Steps
 pub mod Variables
 pub mod Rounds
+pub mod Stayed
+pub mod Again

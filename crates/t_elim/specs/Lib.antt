@@ -1,3 +1,4 @@
 pub mod Eliminating
 pub mod Resolving
 pub mod Resolved
+pub mod Stayed

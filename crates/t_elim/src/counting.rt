@@ -25,8 +25,8 @@ pub fn pays_off(store: &Store, hand: &mut LiteralSet, variable: u32) -> Result<b
     Ok(worth)
 }
 
-/// The same of two lists of clauses. The count stops at the first resolvent that is one too many, and builds none; where
-/// there are no more pairs than clauses, none is counted.
+/// The same of two lists of clauses. Those of the shorter list are held in turn, since to hold a clause costs more than to go
+/// over one.
 fn are_worth_it(
     store: &Store,
     hand: &mut LiteralSet,
@@ -38,18 +38,40 @@ fn are_worth_it(
     requires negative { All (λ id. is_live store.now.slots id ≡ true) negative.now }
     ensures { IfOk result (λ b. IsTrue b ↔ (length positive.now * length negative.now ≤ 256) × (length (resolvents_of variable store.now.slots positive.now negative.now) ≤ length positive.now + length negative.now)) }
 {
-    let Some(pairs) = few_pairs(positive.len(), negative.len()) else {
+    if negative.len() < positive.len() {
+        let turned = are_few(store, hand, variable, negative, positive)?;
+        return Ok(turned);
+    }
+    are_few(store, hand, variable, positive, negative)
+}
+
+/// The same, with the clauses of the first list held. The count stops at the first resolvent that is one too many, and where
+/// no more pairs are ahead than resolvents are left; it builds none.
+fn are_few(
+    store: &Store,
+    hand: &mut LiteralSet,
+    variable: u32,
+    held: &[ClauseId],
+    others: &[ClauseId],
+) -> Result<bool, NoMemory>
+    requires held { All (λ id. is_live store.now.slots id ≡ true) held.now }
+    requires others { All (λ id. is_live store.now.slots id ≡ true) others.now }
+    ensures { IfOk result (λ b. IsTrue b ↔ (length held.now * length others.now ≤ 256) × (length (resolvents_of variable store.now.slots held.now others.now) ≤ length held.now + length others.now)) }
+{
+    let Some(pairs) = few_pairs(held.len(), others.len()) else {
         return Ok(false);
     };
-    let mut left = positive.len() as u128 + negative.len() as u128;
-    if pairs as u128 <= left {
-        return Ok(true);
-    }
-    for id in positive {
+    let mut left = held.len() as u128 + others.len() as u128;
+    let mut ahead = pairs;
+    for id in held {
+        if ahead as u128 <= left {
+            return Ok(true);
+        }
         hand.hold(store.clause(*id))?;
-        if !fit(store, hand, variable, negative, &mut left) {
+        if !fit(store, hand, variable, others, &mut left) {
             return Ok(false);
         }
+        ahead -= others.len();
     }
     Ok(true)
 }
@@ -70,13 +92,13 @@ fn fit(
     store: &Store,
     hand: &LiteralSet,
     variable: u32,
-    negative: &[ClauseId],
+    others: &[ClauseId],
     left: &mut u128,
 ) -> bool
-    requires { All (λ id. is_live store.now.slots id ≡ true) negative.now }
-    ensures { cond result (left.new + length (resolvents_with variable hand.now store.now.slots negative.now) ≡ left.old) (left.old < length (resolvents_with variable hand.now store.now.slots negative.now)) }
+    requires { All (λ id. is_live store.now.slots id ≡ true) others.now }
+    ensures { cond result (left.new + length (resolvents_with variable hand.now store.now.slots others.now) ≡ left.old) (left.old < length (resolvents_with variable hand.now store.now.slots others.now)) }
 {
-    for id in negative {
+    for id in others {
         if !hand.clashes_beside(variable, store.clause(*id)) {
             if *left == 0 {
                 return false;

@@ -6,12 +6,14 @@
 //!
 //! A turn takes one variable, and eliminates it where there are at most 256 pairs and no more resolvents than clauses. They
 //! are counted before any is built, by a table of the literals of the clause in hand; the count stops at the first that is
-//! one too many. A turn costs the pairs times the literals of the clauses of x. Whether another variable is worth it depends
-//! on the clauses with it alone, so only variables of the clauses that went are looked at again.
+//! one too many, or where the pairs ahead can't be too many. A turn costs the pairs times the literals of the clauses of x.
+//! Whether another variable is worth it depends on the clauses with it alone, so only variables of the clauses that went are
+//! looked at again; and a later run passes over a variable that has the clauses that it had when none was worth it.
 ghost use Rattle.std.specs.Prelude.{◌≡◌, ◌++◌, IfOk, OnOk, OnErr, false, true};
 ghost use Rattle.mp_store.specs.Held.{IsUntouched};
 ghost use Rattle.mp_store.specs.Techniques.{IsRun, IsAnswer};
-ghost use Rattle.t_elim.specs.Eliminating.{variable_elimination};
+ghost use Rattle.mp_resting.specs.Resting.{IsRested};
+ghost use Rattle.t_elim.specs.Eliminating.{variable_elimination, eliminating};
 ghost use Rattle.t_elim.specs.Resolved.{is_candidate, AreEliminated};
 
 use crate::candidates::{is_candidate, occurring_variables};
@@ -19,8 +21,10 @@ use crate::counting::pays_off;
 use crate::neighbours::{find_neighbours, queue_again};
 use crate::repairing::repairs_for;
 use crate::resolving::resolve_all;
+use crate::untouched::is_untouched;
 use mp_logic::{ListOf, Lit, NoMemory};
-use mp_store::{ClauseId, Ids, LiteralSet, Ran, Store};
+use mp_resting::Seen;
+use mp_store::{ClauseId, Ending, Ids, LiteralSet, Ran, Store};
 use mp_turns::{Items, Turn, Turned, replace, run_turns};
 use std::alloc::Global;
 
@@ -31,27 +35,67 @@ pub fn eliminate(alloc: Global, store: &mut Store, budget: Option<u64>) -> Resul
     ensures run { IsRun variable_elimination.LeavesAlone store.old store.new }
     ensures answer { IfOk result (λ ran. IsAnswer variable_elimination budget store.old store.new ran) }
 {
+    let seen = Seen::new(alloc);
+    take_turns(alloc, store, budget, &seen)
+}
+
+/// The same turns with the same results. A variable without cost that has the clauses that it had when the store was seen
+/// costs a look-up in place of the count. A run that is finished sees the store anew, which takes four bytes for each literal;
+/// another leaves what was seen as it is.
+pub fn eliminate_again(
+    alloc: Global,
+    store: &mut Store,
+    budget: Option<u64>,
+    seen: &mut Seen,
+) -> Result<Ran, NoMemory>
+    requires unrefuted { store.old.refuted ≡ false }
+    requires rested { IsRested eliminating.IsIdle seen.old store.old }
+    ensures run { IsRun variable_elimination.LeavesAlone store.old store.new }
+    ensures answer { IfOk result (λ ran. IsAnswer variable_elimination budget store.old store.new ran) }
+    ensures rested { OnOk result (IsRested eliminating.IsIdle seen.new store.new) }
+{
+    let ran = take_turns(alloc, store, budget, seen)?;
+    if ran.ending == Ending::Finished && !store.refuted() {
+        *seen = Seen::clauses(alloc, store)?;
+    }
+    Ok(ran)
+}
+
+/// The turns, given what an earlier run saw.
+fn take_turns(
+    alloc: Global,
+    store: &mut Store,
+    budget: Option<u64>,
+    seen: &Seen,
+) -> Result<Ran, NoMemory>
+    requires unrefuted { store.old.refuted ≡ false }
+    requires rested { IsRested eliminating.IsIdle seen.now store.old }
+    ensures run { IsRun variable_elimination.LeavesAlone store.old store.new }
+    ensures answer { IfOk result (λ ran. IsAnswer variable_elimination budget store.old store.new ran) }
+{
     let mut turn = Elimination {
         hand: LiteralSet::new(alloc),
         near: Vec::new(alloc),
+        seen,
     };
     run_turns(alloc, store, &mut turn, budget)
 }
 
-/// The literals of a clause with the variable whose turn it is, and the variables beside it.
+/// The literals of a clause with the variable whose turn it is, the variables beside it, and what an earlier run saw.
 #[derive(Drop)]
-struct Elimination {
+struct Elimination<'a> {
     hand: LiteralSet,
     near: Vec<u32>,
+    seen: &'a Seen,
 }
 
-impl Turn for Elimination {
-    ghost use Rattle.std.specs.Prelude.{⊤};
+impl<'a> Turn for Elimination<'a> {
+    ghost use Rattle.mp_resting.specs.Resting.{IsRested};
     ghost use Rattle.t_elim.specs.Eliminating.{eliminating};
 
     ghost turning = { eliminating };
 
-    ghost fits = { λ t h. ⊤ };
+    ghost fits = { λ t h. IsRested eliminating.IsIdle t.seen.now h };
 
     fn candidates(&self, alloc: Global, store: &Store) -> Result<Items, NoMemory> {
         occurring_variables(alloc, store)
@@ -70,6 +114,9 @@ impl Turn for Elimination {
         }
         let variable = item as u32;
         if !is_candidate(store, variable) {
+            return Ok(Turned::Idle);
+        }
+        if is_untouched(store, self.seen, variable) {
             return Ok(Turned::Idle);
         }
         let worth = pays_off(store, &mut self.hand, variable)?;

@@ -1,11 +1,11 @@
 -- One clause in another, both in order of variable.
-use Rattle.std.proofs.Common.{◌≡◌, ◌≢◌, ℕ, ◌+◌, ◌<◌, ◌≤◌, Bool, true, false, not, cond, List, [], ◌∷◌, length, get_or, drop, drop-cons, add-one, zero, suc, refl, sym, ◌∙◌, ap, subst, arith, inl, inr, Contains, All, ltb, bit_or}
+use Rattle.std.proofs.Common.{◌≡◌, ℕ, ◌+◌, ◌<◌, ◌≤◌, Bool, true, false, not, cond, List, [], ◌∷◌, length, get_or, drop, drop-cons, zero, suc, refl, sym, ◌∙◌, ap, subst, arith, inl, inr, Contains, bit_or}
 use Rattle.std.specs.Prelude.{Option, Some, None, is_some, ◌==◌, ◌&&◌, nat_lt, nat_eq}
 use Rattle.std.specs.Bool.{beq}
 use Rattle.std.specs.List.{filter}
-use Rattle.std.proofs.lemmas.Bool.{cases_Bool, cases_eq, and_parts, and_from, eqb-true, eq-eqb, ltb-true, lt-ltb, le-ltb, not-true, true≢false, false≢true, ne_eqb}
+use Rattle.std.proofs.lemmas.Bool.{cases_Bool, cases_eq, and_parts, and_from, eqb-true, eq-eqb, ltb-true, not-true, true≢false, false≢true, ne_eqb}
 use Rattle.std.proofs.Math.Seq.{drop-length}
-use Rattle.std.proofs.lemmas.List.{drop_all}
+use Rattle.std.proofs.lemmas.List.{drop_all, get_or-drop, length-drop}
 use Rattle.std.proofs.lemmas.List.Elements.{All-contains, Contains-get_or}
 use Rattle.mp_logic.specs.Literal.{Literal}
 use Rattle.mp_logic.specs.Normal.{rises}
@@ -15,13 +15,13 @@ use Rattle.mp_clauses.specs.Places.{is_in, no_repeats, place_of}
 use Rattle.mp_store.specs.Held.{Held}
 use Rattle.mp_clauses.specs.Slots.{clause_of, is_live, live_clauses}
 use Rattle.mp_store.specs.Soundness.{IsStore}
-use Rattle.mp_clauses.specs.Occurrences.{ids_where, slot_has, ids_with, AreExactOccurrences}
+use Rattle.mp_clauses.specs.Occurrences.{ids_with, AreExactOccurrences}
 use Rattle.mp_clauses.specs.Signatures.{signature_of, signature_at}
 use Rattle.mp_clauses.proofs.Signed.{signature_of_part}
-use Rattle.mp_clauses.proofs.Found.{is_in-by, is_in-contains}
+use Rattle.mp_clauses.proofs.Found.{is_in-by, is_in-contains, exact-ids}
 use Rattle.mp_store.proofs.Fixes.{filter-from, filter-has}
 use Rattle.mp_store.proofs.KeptFixing.{live-at}
-use Rattle.t_subsume.specs.Containment.{same_literal, embeds, slot_embeds, holds, AreHolders}
+use Rattle.t_subsume.specs.Containment.{same_literal, embeds, slot_embeds, holds, HasNoHolderBelow, AreFrom, AreHolders}
 
 beq-same : (a b : Bool) → beq a b ≡ true → a ≡ b
 beq-same true true h = refl
@@ -117,7 +117,7 @@ pub slot-embeds : (c : List Literal) (x : Option (List Literal)) → slot_embeds
 slot-embeds c None h = absurd (false≢true h)
 slot-embeds c (Some d) h = (d, refl, h)
 
-pub holders-from : (h : Held) (c : List Literal) (own : ℕ) (rare : Literal) (ids found : List ℕ) → IsStore h → rises 0 c ≡ true → Contains c rare → AreExactOccurrences rare h.slots ids → found ≡ filter (holds h.slots c own) ids → AreHolders h.slots c own found
+holders-from : (h : Held) (c : List Literal) (own : ℕ) (rare : Literal) (ids found : List ℕ) → IsStore h → rises 0 c ≡ true → Contains c rare → AreExactOccurrences rare h.slots ids → found ≡ filter (holds h.slots c own) ids → AreHolders h.slots c own found
 holders-from h c own rare ids found s rc m exact e = rw e (record {
   once = filter-once (holds h.slots c own) ids exact.once;
   each = λ j i.
@@ -133,9 +133,41 @@ holders-from h c own rare ids found s rc m exact e = rw e (record {
       filter-has (holds h.slots c own) ids j there (and_from (not (j == own)) (slot_embeds c (clause_of h.slots j)) other has);
 })
 
+-- the first ids of an occurrence list may be passed over, if none has the literals
+none-passed : (p : ℕ → Bool) (xs : List ℕ) (n : ℕ) → ((i : ℕ) → i < n → p (get_or xs i 0) ≡ false) → filter p (drop n xs) ≡ filter p xs
+none-passed p xs zero f = refl
+none-passed p [] (suc n) f = refl
+none-passed p (x ∷ xs) (suc n) f = none-passed p xs n (λ i lt. f (suc i) (omega arith)) ∙ sym (ap (λ b. cond b (x ∷ filter p xs) (filter p xs)) (f 0 (omega arith)))
+
+low-holds : (slots : List (Option (List Literal))) (c : List Literal) (own least id : ℕ) → HasNoHolderBelow least slots c own → id < least → holds slots c own id ≡ false
+low-holds slots c own least id none lt =
+    elim (cases_Bool (holds slots c own id)) [
+      | inl t ↦
+          let parts = and_parts (not (id == own)) (slot_embeds c (clause_of slots id)) t in
+          let d = slot-embeds c (clause_of slots id) parts.1 in
+          absurd (none id d.0 lt d.1 (λ g. true≢false (sym (eq-eqb id own g) ∙ not-true (id == own) parts.0)) (embeds-among c d.0 d.2))
+      | inr f ↦ f
+    ]
+
+pub newer-holders : (h : Held) (c : List Literal) (own least : ℕ) (rare : Literal) (ids found : List ℕ) → IsStore h → rises 0 c ≡ true → Contains c rare → HasNoHolderBelow least h.slots c own → AreFrom least (ids_with (place_of rare) h.slots) ids → found ≡ filter (holds h.slots c own) ids → AreHolders h.slots c own found
+newer-holders h c own least rare ids found s rc m none a e =
+    let test = holds h.slots c own in
+    let all = ids_with (place_of rare) h.slots in
+    let passed : filter test (drop a.passed all) ≡ filter test all = none-passed test all a.passed (λ i lt. low-holds h.slots c own least (get_or all i 0) none (a.below i lt)) in
+    holders-from h c own rare all found s rc m (exact-ids rare h.slots) (e ∙ ap (filter test) a.rest ∙ passed)
+
+pub none-newer : (p : ℕ → Bool) (ids found : List ℕ) → (length ids == 0) ≡ true → found ≡ [] → found ≡ filter p ids
+none-newer p [] found t e = e
+none-newer p (i ∷ ids) found t e = absurd (omega (arith, eqb-true (length (i ∷ ids)) 0 t))
+
 -- an id of an occurrence list is live
-pub exact-live : (slots : List (Option (List Literal))) (l : Literal) (ids : List ℕ) (k : ℕ) → AreExactOccurrences l slots ids → k < length ids → is_live slots (get_or ids k 0) ≡ true
-exact-live slots l ids k exact lt = let w = (exact.each (get_or ids k 0)).0 (Contains-get_or ids k 0 lt) in ap is_some w.1
+pub newer-live : (slots : List (Option (List Literal))) (l : Literal) (least k : ℕ) (ids : List ℕ) → AreFrom least (ids_with (place_of l) slots) ids → k < length ids → is_live slots (get_or ids k 0) ≡ true
+newer-live slots l least k ids a lt =
+    let all = ids_with (place_of l) slots in
+    let at : get_or ids k 0 ≡ get_or all (a.passed + k) 0 = ap (λ (xs : List ℕ). get_or xs k 0) a.rest ∙ get_or-drop a.passed all k 0 in
+    let many : length ids ≡ length (drop a.passed all) = ap (λ (xs : List ℕ). length xs) a.rest in
+    let w = ((exact-ids l slots).each (get_or all (a.passed + k) 0)).0 (Contains-get_or all (a.passed + k) 0 (omega (arith, lt, many, length-drop a.passed all))) in
+    ap (is_live slots) at ∙ ap is_some w.1
 
 and_false : (b : Bool) → (b && false) ≡ false
 and_false true = refl

@@ -3,3 +3,4 @@ pub mod Subsuming
 pub mod Flipping
 pub mod Strengthened
 pub mod Parts
+pub mod Remembering

@@ -1,6 +1,6 @@
 -- A turn, literal by literal.
-use Rattle.std.proofs.Common.{◌≡◌, ◌⊎◌, ℕ, ◌+◌, ◌-◌, ◌<◌, ◌≤◌, Bool, true, false, List, [], ◌∷◌, ◌++◌, cond, length, get_or, set, length-append, refl, sym, ◌∙◌, ap, subst, arith, inl, inr, Contains, sum_by}
-use Rattle.std.specs.Prelude.{Option, Some, None}
+use Rattle.std.proofs.Common.{◌≡◌, ◌⊎◌, ℕ, ◌+◌, ◌-◌, ◌<◌, ◌≤◌, Bool, true, false, List, [], ◌∷◌, ◌++◌, cond, length, set, length-append, refl, sym, ◌∙◌, ap, subst, arith, inl, inr, Contains, sum_by}
+use Rattle.std.specs.Prelude.{Option, Some}
 use Rattle.std.proofs.Math.Nat.{mul-le-mul_right}
 use Rattle.std.proofs.lemmas.Bool.{cases_Bool, true≢false, cases_lt}
 use Rattle.std.proofs.lemmas.List.{get_or_default}
@@ -8,7 +8,6 @@ use Rattle.std.proofs.lemmas.List.Elements.{Contains-append_left, Contains-push}
 use Rattle.mp_logic.specs.Literal.{Literal, negation}
 use Rattle.mp_logic.specs.Keeping.{State}
 use Rattle.mp_logic.specs.Sets.{with_hard}
-use Rattle.mp_logic.specs.declared.instances.Repair.{Repair}
 use Rattle.mp_store.specs.declared.rewrite.Rewrite.{Rewrite}
 use Rattle.mp_store.specs.Held.{Held, labelled_of, IsUntouched}
 use Rattle.mp_clauses.specs.Slots.{clause_of, live_clauses, has_empty}

@@ -1,6 +1,6 @@
 -- What shortening clauses with one literal of a clause leaves.
-use Rattle.std.proofs.Common.{◌≡◌, ◌≢◌, ◌⊎◌, ℕ, ◌+◌, ◌<◌, ◌≤◌, Bool, true, false, List, [], ◌∷◌, ◌++◌, length, get_or, set, suc, refl, sym, ◌∙◌, ap, subst, arith, inl, inr, Contains, All, sum_by}
-use Rattle.std.specs.Prelude.{Option, Some, None, is_some, map, IsTrue}
+use Rattle.std.proofs.Common.{◌≡◌, ◌⊎◌, ℕ, ◌+◌, ◌<◌, ◌≤◌, true, false, List, [], ◌∷◌, ◌++◌, length, get_or, set, suc, refl, sym, ◌∙◌, ap, subst, arith, inl, inr, Contains, All, sum_by}
+use Rattle.std.specs.Prelude.{Option, Some, None, is_some, map}
 use Rattle.std.proofs.lemmas.Bool.{cases_Bool, cases_eq, cases_lt, true≢false}
 use Rattle.std.proofs.lemmas.List.{get_or_past}
 use Rattle.std.proofs.lemmas.List.Elements.{Contains-get_or}
@@ -15,7 +15,7 @@ use Rattle.mp_logic.specs.declared.instances.Repair.{Repair}
 use Rattle.mp_logic.proofs.General.{same_models_keep, Entails-implied}
 use Rattle.mp_logic.proofs.Literals.{cases_literal, never_both}
 use Rattle.mp_logic.proofs.Members.{Contains-none, Contains-first, Contains-later, Contains-cases, All-from_contained, satisfied, witness, true_by}
-use Rattle.mp_clauses.specs.Places.{is_in, no_repeats}
+use Rattle.mp_clauses.specs.Places.{is_in}
 use Rattle.mp_store.specs.Held.{Held, labelled_of, IsUntouched}
 use Rattle.mp_clauses.specs.Slots.{clause_of, live_clauses}
 use Rattle.mp_store.specs.Replacing.{replaced, slot_worth, worth_of, IsReplacement}
@@ -33,9 +33,11 @@ use Rattle.mp_turns.specs.Clauses.{replacing, AreShrunk}
 use Rattle.mp_turns.proofs.ClausePlaces.{live-placed, live-once, live-others, first-idle}
 use Rattle.mp_turns.proofs.Replacing.{replacing-keeps, replacing-run}
 use Rattle.mp_turns.proofs.Shrinking.{shrunk-entails}
-use Rattle.t_subsume.specs.Containment.{AreHolders}
-use Rattle.t_subsume.specs.Strengthening.{Strengthens, self_subsumption, IsNotStrengthening, strengthening}
-use Rattle.t_subsume.specs.Shortening.{without_literal, left_at, shortened_by, lit_at, IsUseless, AreStrengthened}
+use Rattle.mp_resting.specs.declared.seen.Seen.{Seen}
+use Rattle.mp_resting.specs.Resting.{IsRested}
+use Rattle.t_subsume.specs.Containment.{HasNoHolderBelow, AreHolders}
+use Rattle.t_subsume.specs.Strengthening.{Strengthens, NoStrengthened, self_subsumption, IsNotStrengthening, strengthening}
+use Rattle.t_subsume.specs.Shortening.{without_literal, left_at, shortened_by, lit_at, IsUseless, AreStrengthened, StrengthensNoneBelow, NoneStrengthenedBelow}
 use Rattle.t_subsume.proofs.Flipping.{no-both, lit-in, flip-strengthens, strengthens-flip, without-from, without-has, without-shorter, without-rises, without-within}
 use Rattle.t_subsume.proofs.Subsuming.{clause-normal, clause-within}
 
@@ -246,3 +248,46 @@ new-idle h id c l gone again a put i idle =
         | inr m ↦ inr (dead-useless (new_slots h l gone) i (get_or_past (new_slots h l gone) i None m))
       ]
     ]
+
+-- where no clause strengthens another, each id is idle
+pub all-strengthen-none : (h : Held) → NoStrengthened (live_clauses h.slots) → (id : ℕ) → IsNotStrengthening h.slots id
+all-strengthen-none h end id c e d l m i t = end c d l (live-at h.slots id c e) m i t
+
+-- what is remembered of the clauses that there were
+pub none-strengthened : (seen : Seen) (h : Held) → IsRested strengthening.IsIdle seen h → NoneStrengthenedBelow seen.mark h.slots
+none-strengthened seen h r =
+    elim r [
+      | inl z ↦ record { within = omega (arith, z); none = λ id c lt e. absurd (omega (arith, z, lt)) }
+      | inr w ↦
+          let before = w.1.before_is in
+          let mark = w.1.mark in
+          let next = before.next in
+          let within : seen.mark ≤ length h.slots = omega (arith, mark, next) in
+          record {
+            within = within;
+            none = λ id c lt e. record {
+              within = within;
+              none = λ j d l lower f i t. w.2 id c (before.ids id c (omega (arith, mark, lt)) e) d l (live-at w.0.slots j d (before.ids j d (omega (arith, mark, lower)) f)) i t;
+            };
+          }
+    ]
+
+pub strengthens-none-run : (least : ℕ) (c : List Literal) (h u : Held) → StrengthensNoneBelow least h.slots c → IsRun self_subsumption.LeavesAlone h u → StrengthensNoneBelow least u.slots c
+strengthens-none-run least c h u a r =
+    let within = a.within in
+    let next = r.next in
+    record { within = omega (arith, within, next); none = λ j d l lower f i t. a.none j d l lower (r.ids j d (omega (arith, within, lower)) f) i t }
+
+pub none-strengthened-run : (mark : ℕ) (h u : Held) → NoneStrengthenedBelow mark h.slots → IsRun self_subsumption.LeavesAlone h u → NoneStrengthenedBelow mark u.slots
+none-strengthened-run mark h u a r =
+    let within = a.within in
+    let next = r.next in
+    record { within = omega (arith, within, next); none = λ id c lt e. strengthens-none-run mark c h u (a.none id c lt (r.ids id c (omega (arith, within, lt)) e)) r }
+
+pub strengthens-none : (id mark least : ℕ) (slots : List (Option (List Literal))) (c : List Literal) → NoneStrengthenedBelow mark slots → clause_of slots id ≡ Some c → least ≤ mark → (0 < least → id < mark) → StrengthensNoneBelow least slots c
+strengthens-none id mark least slots c a e low old =
+    let within = a.within in
+    record { within = omega (arith, within, low); none = λ j d l lower f i t. (a.none id c (old (omega arith)) e).none j d l (omega arith) f i t }
+
+pub flipped-no-holder : (least own k : ℕ) (slots : List (Option (List Literal))) (c : List Literal) → k < length c → StrengthensNoneBelow least slots c → HasNoHolderBelow least slots (set c k (negation (lit_at c k))) own
+flipped-no-holder least own k slots c h a j d lower f n m = a.none j d (lit_at c k) lower f (lit-in c k h) (flip-strengthens c d k h m)

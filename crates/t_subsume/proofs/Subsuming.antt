@@ -1,6 +1,7 @@
 -- What dropping the clauses with all literals of one leaves.
-use Rattle.std.proofs.Common.{◌≡◌, ◌≢◌, ◌⊎◌, ℕ, ◌+◌, ◌<◌, ◌≤◌, Bool, true, false, List, [], ◌∷◌, ◌++◌, length, get_or, refl, sym, ◌∙◌, ap, subst, arith, inl, inr, Contains, All, sum_by}
+use Rattle.std.proofs.Common.{◌≡◌, ℕ, ◌<◌, ◌≤◌, true, false, List, [], ◌∷◌, ◌++◌, length, get_or, take, zero, suc, refl, sym, ◌∙◌, ap, subst, arith, inl, inr, Contains, All, sum_by}
 use Rattle.std.specs.Prelude.{Option, Some, None, is_some, ◌==◌, IsTrue}
+use Rattle.std.specs.List.{slice_get}
 use Rattle.std.proofs.lemmas.Bool.{cases_Bool, true≢false, false_from_ne_true}
 use Rattle.std.proofs.lemmas.List.Elements.{All-contains, Contains-get_or}
 use Rattle.std.proofs.lemmas.List.Sums.{sum_by-cons}
@@ -16,14 +17,14 @@ use Rattle.mp_clauses.specs.Places.{is_in}
 use Rattle.mp_store.specs.Held.{Held, labelled_of, IsUntouched}
 use Rattle.mp_clauses.specs.Slots.{clause_of, is_live, live_clauses}
 use Rattle.mp_store.specs.Measures.{IsSmaller}
-use Rattle.mp_store.specs.Replacing.{replaced, slot_worth, worth_of, IsReplacement}
+use Rattle.mp_store.specs.Replacing.{replaced, slot_worth, IsReplacement}
 use Rattle.mp_store.specs.Rewriting.{after}
 use Rattle.mp_store.specs.Soundness.{IsStore}
 use Rattle.mp_store.specs.Techniques.{IsRun, KeepsIds}
 use Rattle.mp_store.proofs.Clashes.{all-none}
 use Rattle.mp_clauses.proofs.Found.{any-by, is_in-by, is_in-contains}
 use Rattle.mp_store.proofs.KeptFixing.{live-at, live-id}
-use Rattle.mp_store.proofs.Replaced.{replaced_clauses, replaced_sums, replaced_count, replaced_ids}
+use Rattle.mp_store.proofs.Replaced.{replaced_clauses, replaced_sums, replaced_count}
 use Rattle.mp_turns.specs.Turning.{IsTurning}
 use Rattle.mp_turns.specs.Turned.{IsChangeOf}
 use Rattle.mp_turns.specs.Leaving.{DropsUnrepaired}
@@ -31,8 +32,10 @@ use Rattle.mp_turns.specs.Clauses.{replacing, AreShrunk}
 use Rattle.mp_turns.proofs.ClausePlaces.{live-placed, length-places, live-once, live-others, placed-at, places-differ, first-idle}
 use Rattle.mp_turns.proofs.Replacing.{replacing-keeps, replacing-slots, replacing-state, replacing-run, left-clause}
 use Rattle.mp_turns.proofs.Shrinking.{shrunk-entails, smaller-dropped}
-use Rattle.t_subsume.specs.Containment.{AreHolders}
-use Rattle.t_subsume.specs.Subsumption.{subsumption, IsNotSubsuming, subsuming}
+use Rattle.mp_resting.specs.declared.seen.Seen.{Seen}
+use Rattle.mp_resting.specs.Resting.{IsRested}
+use Rattle.t_subsume.specs.Containment.{HasNoHolderBelow, NoneHeldBelow, AreHolders}
+use Rattle.t_subsume.specs.Subsumption.{NoSubsumed, subsumption, IsNotSubsuming, subsuming}
 
 none_some : {X : Type 0} (o : Option X) (x : X) → o ≡ None → o ≡ Some x → ⊥
 none_some o x e f = cc
@@ -185,3 +188,53 @@ pub drop-ids : (h u : Held) (gone : List ℕ) → h.refuted ≡ false → IsUnto
 drop-ids h u gone n f id c e =
     let slots : u.slots ≡ replaced gone [] h.slots = replacing-slots gone [] [] h u f (drop-unrefuted h u gone n f) in
     (left-clause gone h.slots id c (sym (ap (λ x. clause_of x id) slots) ∙ e)).0
+
+-- an id's clause has a place, and two ids have two
+clause-placed : (s : List (Option (List Literal))) (id : ℕ) (c : List Literal) → clause_of s id ≡ Some c → slice_get (live_clauses s) (length (live_clauses (take id s))) ≡ Some c
+clause-placed [] id c e = absurd (cc)
+clause-placed (None ∷ s) zero c e = absurd (cc)
+clause-placed (None ∷ s) (suc id) c e = clause-placed s id c e
+clause-placed (Some d ∷ s) zero c e = e
+clause-placed (Some d ∷ s) (suc id) c e = clause-placed s id c e
+
+ids-placed : (s : List (Option (List Literal))) (i j : ℕ) (c d : List Literal) → clause_of s i ≡ Some c → clause_of s j ≡ Some d → length (live_clauses (take i s)) ≡ length (live_clauses (take j s)) → i ≡ j
+ids-placed [] i j c d e f n = absurd (cc)
+ids-placed (None ∷ s) zero j c d e f n = absurd (cc)
+ids-placed (None ∷ s) (suc i) zero c d e f n = absurd (cc)
+ids-placed (None ∷ s) (suc i) (suc j) c d e f n = ap suc (ids-placed s i j c d e f n)
+ids-placed (Some x ∷ s) zero zero c d e f n = refl
+ids-placed (Some x ∷ s) zero (suc j) c d e f n = absurd (omega (arith, n))
+ids-placed (Some x ∷ s) (suc i) zero c d e f n = absurd (omega (arith, n))
+ids-placed (Some x ∷ s) (suc i) (suc j) c d e f n = ap suc (ids-placed s i j c d e f (omega (arith, n)))
+
+-- where no clause has all literals of another, each id is idle
+pub all-subsume-none : (h : Held) → NoSubsumed (live_clauses h.slots) → (id : ℕ) → IsNotSubsuming h.slots id
+all-subsume-none h end id c e j d f n m =
+    end (length (live_clauses (take id h.slots))) (length (live_clauses (take j h.slots))) c d (clause-placed h.slots id c e) (clause-placed h.slots j d f) (λ same. n (sym (ids-placed h.slots id j c d e f same))) m
+
+-- what is remembered of the clauses that there were
+pub none-held : (seen : Seen) (h : Held) → IsRested subsuming.IsIdle seen h → NoneHeldBelow seen.mark h.slots
+none-held seen h r =
+    elim r [
+      | inl z ↦ record { within = omega (arith, z); none = λ id c lt e j d lower f n m. omega (arith, z, lt) }
+      | inr w ↦
+          let before = w.1.before_is in
+          let mark = w.1.mark in
+          let next = before.next in
+          record {
+            within = omega (arith, mark, next);
+            none = λ id c lt e j d lower f n m. w.2 id c (before.ids id c (omega (arith, mark, lt)) e) j d (before.ids j d (omega (arith, mark, lower)) f) n m;
+          }
+    ]
+
+pub none-held-run : (mark : ℕ) (h u : Held) → NoneHeldBelow mark h.slots → IsRun subsumption.LeavesAlone h u → NoneHeldBelow mark u.slots
+none-held-run mark h u a r =
+    let within = a.within in
+    let next = r.next in
+    record {
+      within = omega (arith, within, next);
+      none = λ id c lt e j d lower f n m. a.none id c lt (r.ids id c (omega (arith, within, lt)) e) j d lower (r.ids j d (omega (arith, within, lower)) f) n m;
+    }
+
+pub no-holder : (id mark least : ℕ) (slots : List (Option (List Literal))) (c : List Literal) → NoneHeldBelow mark slots → clause_of slots id ≡ Some c → least ≤ mark → (0 < least → id < mark) → HasNoHolderBelow least slots c id
+no-holder id mark least slots c a e low old j d lt f n m = a.none id c (old (omega arith)) e j d (omega arith) f n m

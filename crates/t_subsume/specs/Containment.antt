@@ -1,5 +1,5 @@
 -- Clauses with all literals of another.
-use Rattle.std.specs.Prelude.{◌≡◌, ◌≢◌, ℕ, ◌==◌, ◌&&◌, Bool, true, false, not, cond, List, [], ◌∷◌, Option, Some, None, IsTrue, Contains, nat_lt, nat_eq}
+use Rattle.std.specs.Prelude.{◌≡◌, ◌≢◌, ℕ, ◌<◌, ◌≤◌, ◌==◌, ◌&&◌, Bool, true, false, not, cond, List, [], ◌∷◌, Option, Some, None, IsTrue, Contains, length, drop, nat_lt, nat_eq, slice_index_or}
 use Rattle.std.specs.Bool.{beq}
 use Rattle.mp_logic.specs.Literal.{Literal}
 use Rattle.mp_logic.specs.Sets.{Among}
@@ -29,3 +29,19 @@ pub record AreHolders (slots : List (Option (List Literal))) (c : List Literal) 
   pub once : IsTrue (no_repeats ids)
   pub each : (j : ℕ) → Contains ids j → (d : List Literal) × (clause_of slots j ≡ Some d) × (j ≢ own) × Among c d
   pub all : (j : ℕ) (d : List Literal) → clause_of slots j ≡ Some d → j ≢ own → Among c d → Contains ids j
+
+-- no id below one, but its own, has a clause with all these literals
+abbrev pub HasNoHolderBelow : ℕ → List (Option (List Literal)) → List Literal → ℕ → Type 0
+HasNoHolderBelow least slots c own = (j : ℕ) (d : List Literal) → j < least → clause_of slots j ≡ Some d → j ≢ own → Among c d → ⊥
+
+-- of ids that rise, those from one on
+pub record AreFrom (least : ℕ) (all ids : List ℕ) : Type 0 where
+  pub passed : ℕ
+  pub rest : ids ≡ drop passed all
+  pub below : (i : ℕ) → i < passed → slice_index_or all i 0 < least
+  pub above : (i : ℕ) → passed ≤ i → i < length all → least ≤ slice_index_or all i 0
+
+-- of the clauses with ids below a mark, none has all literals of another
+pub record NoneHeldBelow (mark : ℕ) (slots : List (Option (List Literal))) : Type 0 where
+  pub within : mark ≤ length slots
+  pub none : (id : ℕ) (c : List Literal) → id < mark → clause_of slots id ≡ Some c → HasNoHolderBelow mark slots c id

@@ -1,7 +1,7 @@
 -- Inside the technique: clauses without a literal, and where a turn stands between the literals of its clause.
-use Rattle.std.specs.Prelude.{◌≡◌, ◌≢◌, ◌⊎◌, IsTrue, ℕ, ◌+◌, ◌<◌, ◌≤◌, Bool, true, false, not, List, [], ◌∷◌, Option, Some, None, Contains, length, map, slice_index_or, sum_by}
+use Rattle.std.specs.Prelude.{◌≡◌, ◌≢◌, ◌⊎◌, IsTrue, ℕ, ◌+◌, ◌<◌, ◌≤◌, Bool, true, false, not, List, [], Option, Some, None, Contains, length, map, slice_index_or, sum_by}
 use Rattle.std.specs.List.{filter}
-use Rattle.mp_logic.specs.Literal.{Literal, negation}
+use Rattle.mp_logic.specs.Literal.{Literal}
 use Rattle.mp_logic.specs.Normal.{rises}
 use Rattle.mp_logic.specs.Sets.{Among}
 use Rattle.mp_clauses.specs.Places.{no_repeats}
@@ -9,7 +9,7 @@ use Rattle.mp_store.specs.Held.{Held, labelled_of, IsUntouched}
 use Rattle.mp_clauses.specs.Slots.{clause_of, live_clauses}
 use Rattle.mp_store.specs.Measures.{IsSmaller}
 use Rattle.t_subsume.specs.Containment.{same_literal}
-use Rattle.t_subsume.specs.Strengthening.{Strengthens, IsNotStrengthening, self_subsumption}
+use Rattle.t_subsume.specs.Strengthening.{Strengthens, IsNotStrengthening}
 
 -- the clause without a literal
 abbrev pub without_literal : Literal → List Literal → List Literal
@@ -55,3 +55,13 @@ pub record IsPart (id : ℕ) (c : List Literal) (old new : Held) (before again :
   pub number : length (live_clauses new.slots) ≡ length (live_clauses old.slots)
   pub same : changed ≡ false → IsUntouched old new × (again ≡ before)
   pub smaller : changed ≡ true → IsSmaller (labelled_of new) (labelled_of old)
+
+-- the clause strengthens none with an id below one
+pub record StrengthensNoneBelow (least : ℕ) (slots : List (Option (List Literal))) (c : List Literal) : Type 0 where
+  pub within : least ≤ length slots
+  pub none : (j : ℕ) (d : List Literal) (l : Literal) → j < least → clause_of slots j ≡ Some d → Contains c l → Strengthens l c d → ⊥
+
+-- of the clauses with ids below a mark, none strengthens another
+pub record NoneStrengthenedBelow (mark : ℕ) (slots : List (Option (List Literal))) : Type 0 where
+  pub within : mark ≤ length slots
+  pub none : (id : ℕ) (c : List Literal) → id < mark → clause_of slots id ≡ Some c → StrengthensNoneBelow mark slots c

@@ -3,8 +3,6 @@ use Rattle.std.specs.Prelude.{◌≡◌, ◌⊎◌, ℕ, List, Option, Some, Con
 use Rattle.std.specs.Prelude.{⊤}
 use Rattle.std.specs.List.{slice_get}
 use Rattle.mp_logic.specs.Literal.{Literal, negation}
-use Rattle.mp_logic.specs.Sets.{Among}
-use Rattle.mp_store.specs.Held.{Held}
 use Rattle.mp_clauses.specs.Slots.{clause_of, live_clauses}
 use Rattle.mp_store.specs.Techniques.{Technique}
 use Rattle.mp_turns.specs.Turning.{Turning}

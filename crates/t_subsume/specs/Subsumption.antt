@@ -3,7 +3,6 @@ use Rattle.std.specs.Prelude.{◌≡◌, ◌≢◌, ℕ, List, Option, Some, len
 use Rattle.std.specs.List.{slice_get}
 use Rattle.mp_logic.specs.Literal.{Literal}
 use Rattle.mp_logic.specs.Sets.{Among}
-use Rattle.mp_store.specs.Held.{Held}
 use Rattle.mp_clauses.specs.Slots.{clause_of}
 use Rattle.mp_store.specs.Techniques.{Technique, KeepsIds}
 use Rattle.mp_turns.specs.Turning.{Turning}

@@ -14,11 +14,14 @@ ghost use Rattle.mp_store.specs.Replacing.{IsReplacement};
 ghost use Rattle.mp_store.specs.Rewriting.{after};
 ghost use Rattle.mp_store.specs.Techniques.{IsRun, IsAnswer};
 ghost use Rattle.mp_turns.specs.Clauses.{replacing};
-ghost use Rattle.t_subsume.specs.Strengthening.{self_subsumption};
-ghost use Rattle.t_subsume.specs.Shortening.{without_literal, shortened_by, lit_at, AreAgain, AreStrengthened, IsPart, IsUseless};
+ghost use Rattle.mp_resting.specs.Resting.{IsRested};
+ghost use Rattle.t_subsume.specs.Strengthening.{self_subsumption, strengthening};
+ghost use Rattle.t_subsume.specs.Shortening.{without_literal, shortened_by, lit_at, AreAgain, AreStrengthened, IsPart, IsUseless, StrengthensNoneBelow};
 
 use crate::containment::{holders, same};
+use crate::resting::{least_for, remember};
 use mp_logic::{Clause, Clauses, ListOf, Lit, NoMemory};
+use mp_resting::Seen;
 use mp_store::{ClauseId, Ids, Ran, Store};
 use mp_turns::{Items, Turn, Turned, live_clause_ids, replace, run_turns};
 use std::alloc::Global;
@@ -31,25 +34,49 @@ pub fn strengthen(alloc: Global, store: &mut Store, budget: Option<u64>) -> Resu
     ensures run { IsRun self_subsumption.LeavesAlone store.old store.new }
     ensures answer { IfOk result (λ ran. IsAnswer self_subsumption budget store.old store.new ran) }
 {
-    let mut turn = Strengthening {
-        lits: ListOf::new(alloc),
-    };
-    run_turns(alloc, store, &mut turn, budget)
+    let mut seen = Seen::new(alloc);
+    strengthen_again(alloc, store, budget, &mut seen)
 }
 
-/// The literals of the clause whose turn it is.
+/// The same, where `seen` remembers the ids of an earlier store in which no clause strengthened another. A clause of those
+/// ids is held against newer ones alone: its turn costs a search by halves in the lists of its literals, for each of them
+/// turned round up to the first that has no newer id, and then the newer clauses of one of them. Once this has finished,
+/// `seen` remembers the ids that there are.
+pub fn strengthen_again(
+    alloc: Global,
+    store: &mut Store,
+    budget: Option<u64>,
+    seen: &mut Seen,
+) -> Result<Ran, NoMemory>
+    requires unrefuted { store.old.refuted ≡ false }
+    requires rested { IsRested strengthening.IsIdle seen.old store.old }
+    ensures run { IsRun self_subsumption.LeavesAlone store.old store.new }
+    ensures answer { IfOk result (λ ran. IsAnswer self_subsumption budget store.old store.new ran) }
+    ensures rested { OnOk result (IsRested strengthening.IsIdle seen.new store.new) }
+{
+    let mut turn = Strengthening {
+        lits: ListOf::new(alloc),
+        mark: seen.mark,
+    };
+    let ran = run_turns(alloc, store, &mut turn, budget)?;
+    remember(alloc, store, ran.ending, seen);
+    Ok(ran)
+}
+
+/// The literals of the clause whose turn it is; those below the mark need not be held against each other.
 #[derive(Drop)]
 struct Strengthening {
     lits: ListOf<Lit>,
+    mark: ClauseId,
 }
 
 impl Turn for Strengthening {
-    ghost use Rattle.std.specs.Prelude.{⊤};
     ghost use Rattle.t_subsume.specs.Strengthening.{strengthening};
+    ghost use Rattle.t_subsume.specs.Shortening.{NoneStrengthenedBelow};
 
     ghost turning = { strengthening };
 
-    ghost fits = { λ t h. ⊤ };
+    ghost fits = { λ t h. NoneStrengthenedBelow t.mark h.slots };
 
     fn candidates(&self, alloc: Global, store: &Store) -> Result<Items, NoMemory> {
         live_clause_ids(alloc, store)
@@ -67,7 +94,8 @@ impl Turn for Strengthening {
             return Ok(Turned::Idle);
         }
         fill(&mut self.lits, store.clause(id))?;
-        if !use_each(alloc, store, &mut self.lits, id, again)? {
+        let least = least_for(id, self.mark);
+        if !use_each(alloc, store, &mut self.lits, id, least, again)? {
             return Ok(Turned::Idle);
         }
         Ok(Turned::Changed)
@@ -85,16 +113,18 @@ fn fill(lits: &mut ListOf<Lit>, clause: &[Lit]) -> Result<(), NoMemory>
     Ok(())
 }
 
-/// Shortens clauses with each of a clause's literals.
+/// Shortens clauses with each of a clause's literals. It is known that none of them has an id below `least`.
 fn use_each(
     alloc: Global,
     store: &mut Store,
     lits: &mut ListOf<Lit>,
     id: ClauseId,
+    least: ClauseId,
     again: &mut Items,
 ) -> Result<bool, NoMemory>
     requires unrefuted { store.old.refuted ≡ false }
     requires own { clause_of store.old.slots id ≡ Some lits.old }
+    requires rested { StrengthensNoneBelow least store.old.slots lits.old }
     ensures run { IsRun self_subsumption.LeavesAlone store.old store.new }
     ensures part { IfOk result (λ changed. store.new.refuted ≡ false → IsPart id lits.old store.old store.new again.old again.new changed) }
     ensures useless { OnOk result (store.new.refuted ≡ false → (k : ℕ) → k < length lits.old → IsUseless store.new.slots lits.old (lit_at lits.old k)) }
@@ -104,7 +134,7 @@ fn use_each(
     for place in 0..lits.len() {
         // what holds of each store
         let _ = store.vars();
-        if use_one(alloc, store, lits, id, place, again)? {
+        if use_one(alloc, store, lits, id, least, place, again)? {
             changed = true;
             if store.refuted() {
                 return Ok(changed);
@@ -120,11 +150,13 @@ fn use_one(
     store: &mut Store,
     lits: &mut ListOf<Lit>,
     id: ClauseId,
+    least: ClauseId,
     place: usize,
     again: &mut Items,
 ) -> Result<bool, NoMemory>
     requires unrefuted { store.old.refuted ≡ false }
     requires own { clause_of store.old.slots id ≡ Some lits.old }
+    requires rested { StrengthensNoneBelow least store.old.slots lits.old }
     requires place { place < length lits.old }
     ensures lits { lits.new ≡ lits.old }
     ensures run { IsRun self_subsumption.LeavesAlone store.old store.new }
@@ -134,7 +166,7 @@ fn use_one(
 {
     // what holds of each store makes the rewrite valid
     let _ = store.vars();
-    let gone = find_strengthened(alloc, store, lits, id, place)?;
+    let gone = find_strengthened(alloc, store, lits, id, least, place)?;
     if gone.len() == 0 {
         return Ok(false);
     }
@@ -204,9 +236,11 @@ fn find_strengthened(
     store: &Store,
     lits: &mut ListOf<Lit>,
     id: ClauseId,
+    least: ClauseId,
     place: usize,
 ) -> Result<Ids, NoMemory>
     requires own { clause_of store.now.slots id ≡ Some lits.old }
+    requires rested { StrengthensNoneBelow least store.now.slots lits.old }
     requires place { place < length lits.old }
     ensures lits { lits.new ≡ lits.old }
     ensures found { IfOk result (λ gone. AreStrengthened store.now id lits.old (lit_at lits.old place) gone) }
@@ -215,7 +249,7 @@ fn find_strengthened(
     let _ = store.vars();
     let lit = literal_of(lits, place);
     lits.set(place, lit.negated());
-    let found = holders(alloc, store, lits.items(), id);
+    let found = holders(alloc, store, lits.items(), id, least);
     lits.set(place, lit);
     let gone = found?;
     Ok(gone)

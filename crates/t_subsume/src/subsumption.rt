@@ -4,13 +4,16 @@
 //! A turn takes a clause and drops all others that have its literals, in one rewrite; of equal clauses the one whose turn
 //! comes first stays. It costs the clauses of one of its literals, that of the fewest. A clause that subsumed none before
 //! subsumes none when others go, so nothing is queued again.
-ghost use Rattle.std.specs.Prelude.{◌≡◌, IfOk, false};
+ghost use Rattle.std.specs.Prelude.{◌≡◌, IfOk, OnOk, false};
 ghost use Rattle.mp_store.specs.Techniques.{IsRun, IsAnswer, KeepsIds};
-ghost use Rattle.t_subsume.specs.Subsumption.{subsumption};
+ghost use Rattle.mp_resting.specs.Resting.{IsRested};
+ghost use Rattle.t_subsume.specs.Subsumption.{subsumption, subsuming};
 
 use crate::containment::holders;
+use crate::resting::{least_for, remember};
 use mp_logic::{ListOf, NoMemory};
-use mp_store::{Ran, Store};
+use mp_resting::Seen;
+use mp_store::{ClauseId, Ran, Store};
 use mp_turns::{Items, Turn, Turned, live_clause_ids, replace, run_turns};
 use std::alloc::Global;
 
@@ -22,20 +25,46 @@ pub fn subsume(alloc: Global, store: &mut Store, budget: Option<u64>) -> Result<
     ensures ids { KeepsIds store.old store.new }
     ensures answer { IfOk result (λ ran. IsAnswer subsumption budget store.old store.new ran) }
 {
-    let mut turn = Subsumption {};
-    run_turns(alloc, store, &mut turn, budget)
+    let mut seen = Seen::new(alloc);
+    subsume_again(alloc, store, budget, &mut seen)
 }
 
+/// The same, where `seen` remembers the ids of an earlier store in which no clause had all literals of another. A clause of
+/// those ids is held against newer ones alone: its turn costs a search by halves in the lists of its literals, up to the
+/// first that has no newer id, and then the newer clauses of one of them. Once this has finished, `seen` remembers the ids
+/// that there are.
+pub fn subsume_again(
+    alloc: Global,
+    store: &mut Store,
+    budget: Option<u64>,
+    seen: &mut Seen,
+) -> Result<Ran, NoMemory>
+    requires unrefuted { store.old.refuted ≡ false }
+    requires rested { IsRested subsuming.IsIdle seen.old store.old }
+    ensures run { IsRun subsumption.LeavesAlone store.old store.new }
+    ensures ids { KeepsIds store.old store.new }
+    ensures answer { IfOk result (λ ran. IsAnswer subsumption budget store.old store.new ran) }
+    ensures rested { OnOk result (IsRested subsuming.IsIdle seen.new store.new) }
+{
+    let mut turn = Subsumption { mark: seen.mark };
+    let ran = run_turns(alloc, store, &mut turn, budget)?;
+    remember(alloc, store, ran.ending, seen);
+    Ok(ran)
+}
+
+/// The clauses below the mark need not be held against each other.
 #[derive(Drop)]
-struct Subsumption {}
+struct Subsumption {
+    mark: ClauseId,
+}
 
 impl Turn for Subsumption {
-    ghost use Rattle.std.specs.Prelude.{⊤};
     ghost use Rattle.t_subsume.specs.Subsumption.{subsuming};
+    ghost use Rattle.t_subsume.specs.Containment.{NoneHeldBelow};
 
     ghost turning = { subsuming };
 
-    ghost fits = { λ t h. ⊤ };
+    ghost fits = { λ t h. NoneHeldBelow t.mark h.slots };
 
     fn candidates(&self, alloc: Global, store: &Store) -> Result<Items, NoMemory> {
         live_clause_ids(alloc, store)
@@ -54,7 +83,8 @@ impl Turn for Subsumption {
         }
         // what holds of each store makes the clause one that may be looked for
         let _ = store.vars();
-        let gone = holders(alloc, store, store.clause(id), id)?;
+        let least = least_for(id, self.mark);
+        let gone = holders(alloc, store, store.clause(id), id, least)?;
         if gone.len() == 0 {
             return Ok(Turned::Idle);
         }

@@ -12,4 +12,4 @@ returns-clause-step g c =
       costs = omega (arith, c.counts-counts.ensures.costs);
       vars = omega (arith, c.vars-2.ensures.vars);
     } in
-    runs_stage c.args.stage c.args.store.now c.run_letter.new.store c.in_ok-step.step.ending c.in_ok-step.step.changed c.vars-2.ensures.sound k c.in_ok-step.ensures
+    runs_stage c.args.stage c.args.store.now c.run_letter.new.store c.in_ok-step.step.ending c.in_ok-step.step.changed c.vars-2.ensures.sound k c.in_ok-step.ensures.step

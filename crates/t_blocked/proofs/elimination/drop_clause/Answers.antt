@@ -1,4 +1,4 @@
-use Rattle.std.proofs.Common.{◌≡◌, [], ◌∷◌, ◌++◌, ap, ◌∙◌}
+use Rattle.std.proofs.Common.{[], ◌∷◌, ◌++◌, ap, ◌∙◌}
 use Rattle.mp_logic.specs.Rewrites.{set_repair}
 use Rattle.t_blocked.proofs.Dropped.{dropping-fits}
 use Rattle.t_blocked.proofs.elimination.drop_clause.Goals as goal

@@ -1,7 +1,4 @@
-use Rattle.std.proofs.Common.{◌≡◌, sym, ◌∙◌, ap}
 use Rattle.mp_logic.specs.Literal.{negation}
-use Rattle.mp_clauses.specs.Places.{place_of}
-use Rattle.mp_clauses.specs.Occurrences.{ids_with}
 use Rattle.mp_store.proofs.Clashes.{ids-live}
 use Rattle.t_blocked.proofs.elimination.is_blocked_on.Goals as goal
 

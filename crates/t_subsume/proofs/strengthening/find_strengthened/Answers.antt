@@ -1,10 +1,11 @@
-use Rattle.std.proofs.Common.{◌≡◌, true, set, ap, sym, subst, ◌∙◌}
+use Rattle.std.proofs.Common.{◌≡◌, true, sym, subst}
 use Rattle.std.specs.Prelude.{All}
-use Rattle.mp_logic.specs.Literal.{negation, IsUpTo}
+use Rattle.mp_logic.specs.Literal.{IsUpTo}
 use Rattle.mp_logic.specs.Normal.{rises}
-use Rattle.t_subsume.specs.Shortening.{lit_at}
+use Rattle.t_subsume.specs.Containment.{HasNoHolderBelow}
 use Rattle.t_subsume.proofs.Flipping.{flip-rises, flip-within}
 use Rattle.t_subsume.proofs.Subsuming.{clause-normal, clause-within}
+use Rattle.t_subsume.proofs.Strengthened.{flipped-no-holder}
 use Rattle.t_subsume.proofs.Parts.{flipped-from, put-back, used-from}
 use Rattle.t_subsume.proofs.strengthening.find_strengthened.Goals as goal
 
@@ -18,6 +19,11 @@ holders-found-requires-clause-within c =
     let flip = flipped-from c.args.lits.now c.set.new.self c.items.result.now c.args.place c.literal_of-lit.result c.negated.result c.literal_of-lit.ensures c.negated.ensures c.set.ensures c.items.ensures in
     subst (All (IsUpTo c.args.store.now.vars)) (sym flip)
     (flip-within c.args.store.now.vars c.args.lits.now c.args.place (clause-normal c.args.store.now c.args.id c.args.lits.now c.vars.ensures.sound c.requires.own) c.requires.place (clause-within c.args.store.now c.args.id c.args.lits.now c.vars.ensures.sound c.requires.own))
+
+pub holders-found-requires-clause-rested : goal.holders-found-requires-clause-rested
+holders-found-requires-clause-rested c =
+    let flip = flipped-from c.args.lits.now c.set.new.self c.items.result.now c.args.place c.literal_of-lit.result c.negated.result c.literal_of-lit.ensures c.negated.ensures c.set.ensures c.items.ensures in
+    subst (λ x. HasNoHolderBelow c.args.least c.args.store.now.slots x c.args.id) (sym flip) (flipped-no-holder c.args.least c.args.id c.args.place c.args.store.now.slots c.args.lits.now c.requires.place c.requires.rested)
 
 pub returns-in_err-gone-clause-lits : goal.returns-in_err-gone-clause-lits
 returns-in_err-gone-clause-lits c = put-back c.args.lits.now c.set.new.self c.set-2.new.self c.args.place c.literal_of-lit.result c.negated.result c.literal_of-lit.ensures c.set.ensures c.set-2.ensures

@@ -1,4 +1,3 @@
-use Rattle.std.proofs.Common.{◌≤◌, length}
 use Rattle.t_subsume.specs.Shortening.{AreAgain}
 use Rattle.t_subsume.proofs.strengthening.queue_again.Given as goal
 

@@ -1,12 +1,9 @@
-use Rattle.std.proofs.Common.{◌≡◌, ◌<◌, length, ap, sym, ◌∙◌, inl, inr, arith}
-use Rattle.mp_logic.specs.Literal.{Literal, negation}
-use Rattle.mp_store.specs.Rewriting.{after}
-use Rattle.mp_store.specs.Held.{IsUntouched}
+use Rattle.std.proofs.Common.{◌<◌, length, sym, ◌∙◌, inl, inr, arith}
+use Rattle.mp_logic.specs.Literal.{negation}
 use Rattle.mp_store.proofs.Runs.{run-same}
-use Rattle.mp_turns.specs.Clauses.{replacing}
 use Rattle.mp_turns.proofs.Pacing.{run-itself}
 use Rattle.t_subsume.specs.Strengthening.{strengthening, self_subsumption}
-use Rattle.t_subsume.specs.Shortening.{shortened_by, lit_at}
+use Rattle.t_subsume.specs.Shortening.{lit_at}
 use Rattle.t_subsume.proofs.Strengthened.{strengthening-sound, none-useless, strengthened-fits, strengthened-run}
 use Rattle.t_subsume.proofs.Parts.{negated-at, after-shortened, part-none, part-one}
 use Rattle.t_subsume.proofs.strengthening.use_one.Goals as goal

@@ -1,9 +1,12 @@
-use Rattle.std.proofs.Common.{◌≡◌, [], ◌++◌, refl, sym, ◌∙◌, ap}
+use Rattle.std.proofs.Common.{◌≡◌, refl, sym, ◌∙◌}
 use Rattle.mp_store.proofs.Clashes.{find-some}
 use Rattle.mp_turns.proofs.Pacing.{run-itself}
-use Rattle.t_blocked.specs.BlockedClauses.{blocking}
-use Rattle.t_blocked.specs.Dropping.{blocks, IsDropped}
-use Rattle.t_blocked.proofs.Dropped.{untouched-run, untouched-stays, blocking-sound, held-within, held-live, unblocked-idle, dead-idle, dropped-by, dropped-run, dropped-stays, dropped-turned}
+use Rattle.mp_store.proofs.KeptFixing.{live-at}
+use Rattle.mp_resting.proofs.Rested.{rested-run}
+use Rattle.t_blocked.specs.BlockedClauses.{blocked_clauses, blocking}
+use Rattle.t_blocked.specs.Dropping.{blocks}
+use Rattle.t_blocked.proofs.Dropped.{untouched-run, untouched-stays, blocking-sound, live-within, unblocked-idle, dropped-by, dropped-run, dropped-stays, dropped-turned}
+use Rattle.t_blocked.proofs.Passed.{held-found}
 use Rattle.t_blocked.proofs.elimination.BlockingTurn.turn.Goals as goal
 
 pub returns-then-not-live-clause-run : goal.returns-then-not-live-clause-run
@@ -12,14 +15,14 @@ returns-then-not-live-clause-run c = run-itself blocking c.args.store.now blocki
 pub returns-then-not-live-clause-stays : goal.returns-then-not-live-clause-stays
 returns-then-not-live-clause-stays c = untouched-stays c.args.store.now c.args.store.now refl
 
-pub returns-in_err-hold-clause-run : goal.returns-in_err-hold-clause-run
-returns-in_err-hold-clause-run c = run-itself blocking c.args.store.now blocking-sound
+pub returns-in_err-found-clause-run : goal.returns-in_err-found-clause-run
+returns-in_err-found-clause-run c = run-itself blocking c.args.store.now blocking-sound
 
-pub returns-in_err-hold-clause-stays : goal.returns-in_err-hold-clause-stays
-returns-in_err-hold-clause-stays c = untouched-stays c.args.store.now c.args.store.now refl
+pub returns-in_err-found-clause-stays : goal.returns-in_err-found-clause-stays
+returns-in_err-found-clause-stays c = untouched-stays c.args.store.now c.args.store.now refl
 
-pub blocking_literal-requires : goal.blocking_literal-requires
-blocking_literal-requires c = held-within c.args.store.now c.args.item c.clause.result.now c.hold.new.self c.vars.ensures.sound c.clause.ensures c.in_ok-hold.ensures
+pub blocking_literal-requires-clause-within : goal.blocking_literal-requires-clause-within
+blocking_literal-requires-clause-within c = live-within c.args.store.now c.clause-clause.result.now c.vars.ensures.sound (live-at c.args.store.now.slots c.args.item c.clause-clause.result.now (sym c.clause-clause.ensures))
 
 pub returns-in_default-clause-run : goal.returns-in_default-clause-run
 returns-in_default-clause-run c = run-itself blocking c.args.store.now blocking-sound
@@ -29,10 +32,12 @@ returns-in_default-clause-stays c = untouched-stays c.args.store.now c.args.stor
 
 pub returns-in_default-clause-turned : goal.returns-in_default-clause-turned
 returns-in_default-clause-turned c =
-    (refl, c.requires.empty, unblocked-idle c.args.store.now c.args.item c.hold.new.self c.vars.ensures.sound (held-live c.args.store.now c.args.item c.clause.result.now c.hold.new.self c.clause.ensures c.in_ok-hold.ensures) (sym c.in_default.ensures))
+    (refl, c.requires.empty, unblocked-idle c.args.store.now c.args.item c.clause-clause.result.now c.vars.ensures.sound (sym c.clause-clause.ensures) (sym c.in_ok-found.ensures.lit ∙ c.in_default.is))
 
 pub find_near-requires : goal.find_near-requires
-find_near-requires c = held-within c.args.store.now c.args.item c.clause.result.now c.hold.new.self c.vars.ensures.sound c.clause.ensures c.in_ok-hold.ensures
+find_near-requires c =
+    let w = held-found c.args.store.now c.args.item c.clause-clause.result.now c.blocking_literal.new.hand c.in_ok-found.found c.in-Some.lit c.clause-clause.ensures c.in_ok-found.ensures.lit c.in_ok-found.ensures.hand c.in-Some.is in
+    live-within c.args.store.now c.blocking_literal.new.hand c.vars.ensures.sound (live-at c.args.store.now.slots c.args.item c.blocking_literal.new.hand w.live)
 
 pub returns-in_err-find_near-clause-run : goal.returns-in_err-find_near-clause-run
 returns-in_err-find_near-clause-run c = run-itself blocking c.args.store.now blocking-sound
@@ -47,10 +52,14 @@ pub returns-in_err-queue_again-clause-stays : goal.returns-in_err-queue_again-cl
 returns-in_err-queue_again-clause-stays c = untouched-stays c.args.store.now c.args.store.now refl
 
 pub drop_clause-requires-clause-live : goal.drop_clause-requires-clause-live
-drop_clause-requires-clause-live c = held-live c.args.store.now c.args.item c.clause.result.now c.hold.new.self c.clause.ensures c.in_ok-hold.ensures
+drop_clause-requires-clause-live c =
+    let w = held-found c.args.store.now c.args.item c.clause-clause.result.now c.blocking_literal.new.hand c.in_ok-found.found c.in-Some.lit c.clause-clause.ensures c.in_ok-found.ensures.lit c.in_ok-found.ensures.hand c.in-Some.is in
+    w.live
 
 pub drop_clause-requires-clause-has : goal.drop_clause-requires-clause-has
-drop_clause-requires-clause-has c = (find-some (blocks c.args.store.now c.hold.new.self) c.hold.new.self c.in-Some.lit (sym c.in-Some.ensures)).0
+drop_clause-requires-clause-has c =
+    let w = held-found c.args.store.now c.args.item c.clause-clause.result.now c.blocking_literal.new.hand c.in_ok-found.found c.in-Some.lit c.clause-clause.ensures c.in_ok-found.ensures.lit c.in_ok-found.ensures.hand c.in-Some.is in
+    (find-some (blocks c.args.store.now c.blocking_literal.new.hand) c.blocking_literal.new.hand c.in-Some.lit w.found).0
 
 pub returns-in_err-drop_clause-clause-run : goal.returns-in_err-drop_clause-clause-run
 returns-in_err-drop_clause-clause-run c = untouched-run c.args.store.now c.drop_clause.new.store c.in_err-drop_clause.ensures.err
@@ -60,16 +69,25 @@ returns-in_err-drop_clause-clause-stays c = untouched-stays c.args.store.now c.d
 
 pub returns-clause-run : goal.returns-clause-run
 returns-clause-run c =
-    let dropped = dropped-by c.args.item c.args.store.now c.drop_clause.new.store c.hold.new.self c.in-Some.lit c.find_near.new.near.items (held-live c.args.store.now c.args.item c.clause.result.now c.hold.new.self c.clause.ensures c.in_ok-hold.ensures) (sym c.in-Some.ensures) c.in_ok-drop_clause.ensures.ok c.in_ok-find_near.ensures in
+    let w = held-found c.args.store.now c.args.item c.clause-clause.result.now c.blocking_literal.new.hand c.in_ok-found.found c.in-Some.lit c.clause-clause.ensures c.in_ok-found.ensures.lit c.in_ok-found.ensures.hand c.in-Some.is in
+    let dropped = dropped-by c.args.item c.args.store.now c.drop_clause.new.store c.blocking_literal.new.hand c.in-Some.lit c.find_near.new.near.items w.live w.found c.in_ok-drop_clause.ensures.ok c.in_ok-find_near.ensures in
     dropped-run c.args.item c.args.store.now c.drop_clause.new.store c.find_near.new.near.items c.vars.ensures.sound dropped
 
 pub returns-clause-stays : goal.returns-clause-stays
 returns-clause-stays c =
-    let dropped = dropped-by c.args.item c.args.store.now c.drop_clause.new.store c.hold.new.self c.in-Some.lit c.find_near.new.near.items (held-live c.args.store.now c.args.item c.clause.result.now c.hold.new.self c.clause.ensures c.in_ok-hold.ensures) (sym c.in-Some.ensures) c.in_ok-drop_clause.ensures.ok c.in_ok-find_near.ensures in
+    let w = held-found c.args.store.now c.args.item c.clause-clause.result.now c.blocking_literal.new.hand c.in_ok-found.found c.in-Some.lit c.clause-clause.ensures c.in_ok-found.ensures.lit c.in_ok-found.ensures.hand c.in-Some.is in
+    let dropped = dropped-by c.args.item c.args.store.now c.drop_clause.new.store c.blocking_literal.new.hand c.in-Some.lit c.find_near.new.near.items w.live w.found c.in_ok-drop_clause.ensures.ok c.in_ok-find_near.ensures in
     dropped-stays c.args.item c.args.store.now c.drop_clause.new.store c.find_near.new.near.items dropped
 
 pub returns-clause-turned : goal.returns-clause-turned
 returns-clause-turned c =
-    let dropped = dropped-by c.args.item c.args.store.now c.drop_clause.new.store c.hold.new.self c.in-Some.lit c.find_near.new.near.items (held-live c.args.store.now c.args.item c.clause.result.now c.hold.new.self c.clause.ensures c.in_ok-hold.ensures) (sym c.in-Some.ensures) c.in_ok-drop_clause.ensures.ok c.in_ok-find_near.ensures in
+    let w = held-found c.args.store.now c.args.item c.clause-clause.result.now c.blocking_literal.new.hand c.in_ok-found.found c.in-Some.lit c.clause-clause.ensures c.in_ok-found.ensures.lit c.in_ok-found.ensures.hand c.in-Some.is in
+    let dropped = dropped-by c.args.item c.args.store.now c.drop_clause.new.store c.blocking_literal.new.hand c.in-Some.lit c.find_near.new.near.items w.live w.found c.in_ok-drop_clause.ensures.ok c.in_ok-find_near.ensures in
     let put : c.queue_again.new.again ≡ c.find_near.new.near.items = rw (c.requires.empty, c.deref.ensures.value) at c.in_ok-queue_again.ensures in
     dropped-turned c.args.item c.args.store.now c.drop_clause.new.store c.find_near.new.near.items c.queue_again.new.again c.vars.ensures.sound dropped put
+
+pub returns-clause-fits : goal.returns-clause-fits
+returns-clause-fits c n =
+    let w = held-found c.args.store.now c.args.item c.clause-clause.result.now c.blocking_literal.new.hand c.in_ok-found.found c.in-Some.lit c.clause-clause.ensures c.in_ok-found.ensures.lit c.in_ok-found.ensures.hand c.in-Some.is in
+    let dropped = dropped-by c.args.item c.args.store.now c.drop_clause.new.store c.blocking_literal.new.hand c.in-Some.lit c.find_near.new.near.items w.live w.found c.in_ok-drop_clause.ensures.ok c.in_ok-find_near.ensures in
+    rested-run blocking.IsIdle blocked_clauses.LeavesAlone c.args.self.now.seen.now c.args.store.now c.drop_clause.new.store c.requires.fits (dropped-run c.args.item c.args.store.now c.drop_clause.new.store c.find_near.new.near.items c.vars.ensures.sound dropped)

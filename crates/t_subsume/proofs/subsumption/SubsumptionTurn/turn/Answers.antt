@@ -2,7 +2,7 @@ use Rattle.std.proofs.Common.{◌<◌, length, sym, inr, arith}
 use Rattle.mp_store.proofs.Runs.{run-same}
 use Rattle.mp_turns.proofs.Pacing.{run-itself}
 use Rattle.t_subsume.specs.Subsumption.{subsumption, subsuming}
-use Rattle.t_subsume.proofs.Subsuming.{subsuming-sound, clause-some, clause-normal, clause-within, gone-fits, drop-run, drop-changed, untouched-ids, drop-ids}
+use Rattle.t_subsume.proofs.Subsuming.{subsuming-sound, clause-some, clause-normal, clause-within, gone-fits, drop-run, drop-changed, untouched-ids, drop-ids, no-holder, none-held-run}
 use Rattle.t_subsume.proofs.subsumption.SubsumptionTurn.turn.Goals as goal
 
 pub returns-then-not-live-clause-run : goal.returns-then-not-live-clause-run
@@ -53,3 +53,11 @@ returns-in_err-replace-clause-stays c = untouched-ids c.args.store.now c.replace
 
 pub returns-clause-stays : goal.returns-clause-stays
 returns-clause-stays c = drop-ids c.args.store.now c.replace.new.store c.in_ok-gone.gone c.requires.unrefuted (rw (c.new.ensures, c.new-2.ensures) at c.in_ok-replace.ensures.ok)
+
+pub holders-requires-clause-rested : goal.holders-requires-clause-rested
+holders-requires-clause-rested c = no-holder c.args.item c.args.self.now.mark c.least_for-least.result c.args.store.now.slots c.clause.result.now c.requires.fits (sym c.clause.ensures) c.least_for-least.ensures.within c.least_for-least.ensures.old
+
+pub returns-clause-fits : goal.returns-clause-fits
+returns-clause-fits c n =
+    none-held-run c.args.self.now.mark c.args.store.now c.replace.new.store c.requires.fits
+    (drop-run c.args.store.now c.replace.new.store c.args.item c.clause.result.now c.in_ok-gone.gone (sym c.clause.ensures) c.in_ok-gone.ensures (rw (c.new.ensures, c.new-2.ensures) at c.in_ok-replace.ensures.ok))

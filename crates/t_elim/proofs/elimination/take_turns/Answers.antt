@@ -1,5 +1,5 @@
 use Rattle.t_elim.proofs.Rounds.{eliminating-sound}
-use Rattle.t_elim.proofs.elimination.eliminate.Goals as goal
+use Rattle.t_elim.proofs.elimination.take_turns.Goals as goal
 
 pub run_turns-requires-clause-sound : goal.run_turns-requires-clause-sound
 run_turns-requires-clause-sound c = eliminating-sound
