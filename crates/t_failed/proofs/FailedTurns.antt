@@ -1,11 +1,10 @@
 -- A turn of failed-literal probing.
-use Rattle.std.proofs.Common.{◌≡◌, ◌⊎◌, ℕ, ◌+◌, ◌-◌, ◌*◌, ◌/◌, ◌<◌, ◌≤◌, Bool, true, false, cond, List, [], ◌∷◌, ◌++◌, length, take, refl, sym, ◌∙◌, ap, subst, arith, inl, inr, Contains, add-zero}
+use Rattle.std.proofs.Common.{◌≡◌, ◌⊎◌, ℕ, ◌+◌, ◌*◌, ◌/◌, ◌<◌, ◌≤◌, Bool, true, false, cond, List, [], ◌∷◌, ◌++◌, length, take, drop, refl, sym, ◌∙◌, ap, subst, arith, inl, inr, Contains, add-zero}
 use Rattle.std.specs.Prelude.{Option, Some, None, IfSome, MatchBool, ◌||◌}
 use Rattle.std.specs.List.{filter, range_with_len}
 use Rattle.std.proofs.lemmas.Bool.{cases_Bool, or_cases, true≢false}
 use Rattle.std.proofs.lemmas.List.{length-append}
 use Rattle.std.proofs.lemmas.List.Elements.{Contains-append_left}
-use Rattle.std.proofs.Math.Nat.{mul-le-mul_left}
 use Rattle.std.proofs.Math.Seq.{take-append_seam}
 use Rattle.mp_logic.specs.Literal.{Literal, negation, IsUpTo}
 use Rattle.mp_logic.specs.Keeping.{State}
@@ -13,11 +12,11 @@ use Rattle.mp_logic.specs.Sets.{Implies}
 use Rattle.mp_logic.specs.Rewrites.{set_repair}
 use Rattle.mp_logic.specs.declared.instances.Repair.{Repair}
 use Rattle.mp_logic.proofs.Fixed.{Bends-implied}
+use Rattle.mp_logic.proofs.Members.{Contains-none}
 use Rattle.mp_clauses.specs.Places.{place_of, literal_at, has, no_repeats}
 use Rattle.mp_clauses.specs.Slots.{live_clauses, has_empty}
-use Rattle.mp_clauses.specs.Tables.{marked}
-use Rattle.mp_clauses.proofs.Found.{has-contains}
-use Rattle.mp_clauses.proofs.Pricing.{place-literal, literal-place}
+use Rattle.mp_clauses.proofs.Found.{has-by, has-contains}
+use Rattle.mp_clauses.proofs.Pricing.{literal-place}
 use Rattle.mp_store.specs.Held.{Held, labelled_of, IsUntouched}
 use Rattle.mp_store.specs.Rewriting.{changed_by, refuted_by, after}
 use Rattle.mp_store.specs.Soundness.{IsStore}
@@ -28,15 +27,15 @@ use Rattle.mp_store.proofs.Fixes.{filter-from}
 use Rattle.mp_store.proofs.KeptFixing.{new-slots}
 use Rattle.mp_store.proofs.Runs.{run-same}
 use Rattle.mp_turns.specs.Turning.{IsTurning}
-use Rattle.mp_turns.specs.Turned.{IsChangeOf, IsTurn}
 use Rattle.mp_turns.specs.Underway.{StaysWithin}
-use Rattle.mp_turns.specs.declared.turn.Turned.TheVariants.{Changed}
-use Rattle.mp_turns.proofs.FixedOne.{fixing-run, costs-among, fewer-occur, fixed-smaller}
+use Rattle.mp_turns.proofs.FixedOne.{fixing-run, costs-among, still-occurs, fewer-occur, fixed-smaller}
 use Rattle.mp_turns.proofs.OwnIdle.{own-idle}
 use Rattle.mp_turns.proofs.Replacing.{plain-after}
 use Rattle.t_failed.specs.Failed.{IsUnfailed, LeavesVariables, failed_literals, probing}
+use Rattle.t_failed.specs.Taking.{IsFixed}
 use Rattle.t_failed.specs.Propagating.{IsRoot, IsRootBelow, IsProbed, IsFailed, IsGrown, AreKnown}
-use Rattle.t_failed.proofs.Occurring.{range-once, listed, listed-count}
+use Rattle.t_failed.proofs.Occurring.{range-once, listed}
+use Rattle.t_failed.proofs.Settling.{contains-part}
 use Rattle.t_failed.proofs.Roots.{root-fixed, failed-implied}
 
 leaves-itself : (s : State) → LeavesVariables s s []
@@ -118,31 +117,34 @@ pub fixed-root : (h u : Held) (l : Literal) (p : List Literal) (b : Bool) → Is
 fixed-root h u l p b s up imp r e n = root-fixed h u l p b LeavesVariables s up imp r (fixed-vars h u l e n) (fixed-slots h u l e n) (fixed-run h u l s up imp e)
 
 -- a change
-pub fixed-turned : (h u : Held) (item : ℕ) (again : List ℕ) (l : Literal) → IsStore h → IsStore u → IsUpTo h.vars l → occurs l.variable (live_clauses h.slots) ≡ true → IsUntouched (after (fixing_of (l ∷ []) h) h) u → (u.refuted ≡ false → again ≡ places u) → IsTurn probing item h u again Changed
-fixed-turned h u item again l s su up there e a =
-    let change : u.refuted ≡ false → IsChangeOf probing item h u again = λ n.
+pub fixed-change : (h u : Held) (l : Literal) → IsUpTo h.vars l → occurs l.variable (live_clauses h.slots) ≡ true → IsUntouched (after (fixing_of (l ∷ []) h) h) u → (u.refuted ≡ true) ⊎ IsFixed h u
+fixed-change h u l up there e =
+    let change : u.refuted ≡ false → IsFixed h u = λ n.
     let state = fixed-state h u l e n in
+    let slots = fixed-slots h u l e n in
     let P : State → Type 0 = λ t. occurring t.vars t.hard < occurring h.vars (live_clauses h.slots) in
     let Q : State → Type 0 = λ t. IsSmaller t (labelled_of h) in
-    let size : occurring u.vars (live_clauses u.slots) < occurring h.vars (live_clauses h.slots) = subst P (sym state) (fewer-occur h l up there) in
-    let now = listed-count (live_clauses u.slots) u.vars in
-    let was = listed-count (live_clauses h.slots) h.vars in
-    let wait : (i : ℕ) → Contains again i ⊎ probing.IsIdle u i = λ i. subst (λ xs. Contains xs i ⊎ probing.IsIdle u i) (sym (a n)) (waits-or-idle u i su) in
-    let many : length again ≡ length (places u) = ap (λ (xs : List ℕ). length xs) (a n) in
-    let fall : ℕ = occurring h.vars (live_clauses h.slots) - occurring u.vars (live_clauses u.slots) in
-    let one : 1 ≤ fall = omega (arith, size) in
-    let wide : length (places h) * 1 ≤ length (places h) * fall = mul-le-mul_left {m = 1} {n = fall} (length (places h)) one in
     record {
-      kept = λ i q. wait i;
-      own = wait item;
-      falls = omega (arith, size);
-      few = omega (arith, wide, many, now, was, size);
-      fewer = omega (arith, now, was, size);
+      occur = λ v o. still-occurs h l v (subst (λ x. occurs v (live_clauses x) ≡ true) slots o);
+      falls = subst P (sym state) (fewer-occur h l up there);
       smaller = subst Q (sym state) (fixed-smaller h l up there);
     } in
-    let cases : (b : Bool) → u.refuted ≡ b → (u.refuted ≡ true) ⊎ IsChangeOf probing item h u again =
-    λ (t : Bool). elim t as (λ b. u.refuted ≡ b → (u.refuted ≡ true) ⊎ IsChangeOf probing item h u again) [ true ↦ λ f. inl f | false ↦ λ f. inr (change f) ] in
+    let cases : (b : Bool) → u.refuted ≡ b → (u.refuted ≡ true) ⊎ IsFixed h u =
+    λ (t : Bool). elim t as (λ b. u.refuted ≡ b → (u.refuted ≡ true) ⊎ IsFixed h u) [ true ↦ λ f. inl f | false ↦ λ f. inr (change f) ] in
     cases u.refuted refl
+
+pub fixed-standing : (h u : Held) → u.refuted ≡ false → (u.refuted ≡ true) ⊎ IsFixed h u → IsFixed h u
+fixed-standing h u n w = elim w [ inl t ↦ absurd (true≢false (sym t ∙ n)) | inr f ↦ f ]
+
+-- what a turn answers
+abbrev Turned : Held → Held → ℕ → Bool → Type 0
+Turned h u item b = MatchBool b ((u.refuted ≡ true) ⊎ IsFixed h u) (IsUntouched h u × probing.IsIdle h item)
+
+pub turned-true : (h u : Held) (item : ℕ) (b : Bool) → b ≡ true → MatchBool b ((u.refuted ≡ true) ⊎ IsFixed h u) (IsUntouched h u × probing.IsIdle h item) → (u.refuted ≡ true) ⊎ IsFixed h u
+turned-true h u item b t m = subst (Turned h u item) t m
+
+pub turned-false : (h u : Held) (item : ℕ) (b : Bool) → b ≡ false → MatchBool b ((u.refuted ≡ true) ⊎ IsFixed h u) (IsUntouched h u × probing.IsIdle h item) → IsUntouched h u × probing.IsIdle h item
+turned-false h u item b f m = subst (Turned h u item) f m
 
 -- idle turns
 pub idle-none : (h : Held) (item : ℕ) → occurs (item / 2) (live_clauses h.slots) ≡ false → probing.IsIdle h item
@@ -151,21 +153,19 @@ idle-none h item f t = absurd (true≢false (sym t ∙ f))
 pub idle-unfailed : (h : Held) (item : ℕ) (l : Literal) → l ≡ literal_at item → IsUnfailed (live_clauses h.slots) l → probing.IsIdle h item
 idle-unfailed h item l e f t = subst (IsUnfailed (live_clauses h.slots)) e f
 
-pub known-unfailed : (cs : List (List Literal)) (known : List Bool) (l : Literal) → AreKnown cs known → marked known (place_of l) ≡ true → IsUnfailed cs l
-known-unfailed cs known l k t = subst (IsUnfailed cs) (literal-place l) (k (place_of l) t)
+pub known-unfailed : (cs : List (List Literal)) (known : List Literal) (l : Literal) → AreKnown cs known → has (place_of l) known ≡ true → IsUnfailed cs l
+known-unfailed cs known l k t = k l (has-contains known l t)
 
 -- the literals of a probe do not fail
-pub marks-known : (h : Held) (old p lits : List Literal) (l : Literal) (known new : List Bool) → IsProbed h old l p → lits ≡ p → AreKnown (live_clauses h.slots) known → ((q : ℕ) → marked new q ≡ (marked known q || has q lits)) → AreKnown (live_clauses h.slots) new
-marks-known h old p lits l known new r same k e q t =
-    elim (or_cases (marked known q) (has q lits) (sym (e q) ∙ t)) [
-      | inl a ↦ k q a
-      | inr b ↦
-          let at : has (place_of (literal_at q)) p ≡ true = ap (λ j. has j p) (place-literal q) ∙ (ap (has q) (sym same) ∙ b) in
-          (p, r.propagated, has-contains p (literal_at q) at)
+pub probe-known : (h : Held) (old p lits : List Literal) (m n : ℕ) (l : Literal) (known new : List Literal) → IsProbed h old l p → lits ≡ take m (drop n p) → AreKnown (live_clauses h.slots) known → ((q : ℕ) → has q new ≡ (has q known || has q lits)) → AreKnown (live_clauses h.slots) new
+probe-known h old p lits m n l known new r same k e x i =
+    elim (or_cases (has (place_of x) known) (has (place_of x) lits) (sym (e (place_of x)) ∙ has-by new x i)) [
+      | inl a ↦ k x (has-contains known x a)
+      | inr b ↦ (p, r.propagated, contains-part m n p x (subst (λ xs. Contains xs x) same (has-contains lits x b)))
     ]
 
-pub none-known : (cs : List (List Literal)) (known : List Bool) → known ≡ [] → AreKnown cs known
-none-known cs known e q t = absurd (true≢false (sym t ∙ ap (λ ks. marked ks q) e))
+pub none-known : (cs : List (List Literal)) (known : List Literal) → known ≡ [] → AreKnown cs known
+none-known cs known e l i = absurd (Contains-none l (subst (λ xs. Contains xs l) e i))
 
 -- what a probe answers
 pub holds-true : (cs : List (List Literal)) (l : Literal) (b : Bool) → b ≡ true → MatchBool b (IsUnfailed cs l) (Implies cs (negation l ∷ [])) → IsUnfailed cs l

@@ -8,3 +8,4 @@ pub mod PairClauses
 pub mod PairTurns
 pub mod Searching
 pub mod Visits
+pub mod Taken

@@ -19,6 +19,9 @@ use Rattle.t_failed.specs.Propagating.{AreUpTo, OthersAreFalse, AreFalseFrom, Is
 contains-drop : {X : Type 0} (n : ℕ) (xs : List X) (x : X) → Contains (drop n xs) x → Contains xs x
 contains-drop n xs x i = let e = take-append-drop n xs in subst (λ ys. Contains ys x) e (Contains-append_right (take n xs) (drop n xs) x i)
 
+pub contains-part : {X : Type 0} (m n : ℕ) (xs : List X) (x : X) → Contains (take m (drop n xs)) x → Contains xs x
+contains-part m n xs x i = let e = take-append-drop m (drop n xs) in contains-drop n xs x (subst (λ ys. Contains ys x) e (Contains-append_left (take m (drop n xs)) (drop m (drop n xs)) x i))
+
 drop-less : {X : Type 0} (m n : ℕ) (xs : List X) (x : X) → m ≤ n → Contains (drop n xs) x → Contains (drop m xs) x
 drop-less zero n xs x h i = contains-drop n xs x i
 drop-less (suc m) zero xs x h i = absurd (omega arith)

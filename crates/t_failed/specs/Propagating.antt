@@ -3,7 +3,7 @@ use Rattle.std.specs.Prelude.{◌≡◌, ◌⊎◌, ℕ, ◌<◌, ◌≤◌, Boo
 use Rattle.mp_logic.specs.Literal.{Literal, negation, IsUpTo}
 use Rattle.mp_logic.specs.Learning.{IsConsistent, IsAtRest, MakesFalse, IsPropagated}
 use Rattle.mp_logic.specs.Truth.{literal_value, IsSatisfied}
-use Rattle.mp_clauses.specs.Places.{place_of, has, no_repeats, literal_at}
+use Rattle.mp_clauses.specs.Places.{place_of, has, no_repeats}
 use Rattle.mp_clauses.specs.Slots.{clause_of, live_clauses}
 use Rattle.mp_clauses.specs.Tables.{marked}
 use Rattle.mp_store.specs.Held.{Held}
@@ -82,9 +82,9 @@ pub record IsRootBelow (h : Held) (least : ℕ) (p : List Literal) (refuted : Bo
   pub implied : (a : List Bool) → IsSatisfied a (live_clauses h.slots) → Agrees (live_clauses h.slots) a p
   pub state : cond refuted ((a : List Bool) → IsSatisfied a (live_clauses h.slots) → ⊥) (AreSettledBelow h.slots least p (length p))
 
--- the marked literals do not fail
-abbrev pub AreKnown : List (List Literal) → List Bool → Type 0
-AreKnown cs known = (p : ℕ) → marked known p ≡ true → IsUnfailed cs (literal_at p)
+-- the literals do not fail
+abbrev pub AreKnown : List (List Literal) → List Literal → Type 0
+AreKnown cs known = (l : Literal) → Contains known l → IsUnfailed cs l
 
 -- the variables of the literals occur
 abbrev pub IsMentioned : List (List Literal) → List Literal → Type 0

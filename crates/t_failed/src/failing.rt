@@ -2,29 +2,28 @@
 //! ends in a conflict, each model makes its negation true, which is fixed. The one repair makes it true again.
 //!
 //! A turn takes one literal. A propagation without a conflict shows at once that none of the literals on its trail fails, so
-//! their turns come to a look-up until a literal is fixed. Then each literal of a variable that occurs waits again. What all
-//! clauses force is propagated once, and after a change only the clauses that it left are looked at.
-ghost use Rattle.std.specs.Prelude.{◌≡◌, ◌≤◌, ◌<◌, ◌+◌, ◌++◌, ◌∷◌, ◌||◌, [], ℕ, IfOk, IfSome, OnOk, OnErr, MatchBool, Contains, false, true, length, take};
+//! their turns come to a look-up until a literal is fixed. Then each literal of a variable that occurs waits again: those that
+//! were taken since the last fix are put last, and the others wait still. What all clauses force is propagated once, and after
+//! a change only the clauses that it left are looked at. So a fix costs what was done since the one before, and what it changes.
+ghost use Rattle.std.specs.Prelude.{◌≡◌, ◌≤◌, ◌+◌, ◌∷◌, [], ◌⊎◌, ℕ, IfOk, IfSome, OnOk, OnErr, MatchBool, false, true, length};
 ghost use Rattle.mp_logic.specs.Literal.{IsUpTo, negation};
 ghost use Rattle.mp_logic.specs.Sets.{Implies};
-ghost use Rattle.mp_clauses.specs.Places.{place_of, has};
 ghost use Rattle.mp_clauses.specs.Slots.{live_clauses};
-ghost use Rattle.mp_clauses.specs.Tables.{marked};
 ghost use Rattle.mp_store.specs.Held.{IsUntouched};
 ghost use Rattle.mp_store.specs.Fixing.{fixing_of};
 ghost use Rattle.mp_store.specs.Rewriting.{after};
 ghost use Rattle.mp_store.specs.Measures.{occurs};
 ghost use Rattle.mp_store.specs.Techniques.{IsRun, IsAnswer};
-ghost use Rattle.t_failed.specs.Failed.{failed_literals, IsUnfailed};
+ghost use Rattle.mp_turns.specs.Underway.{StaysWithin};
+ghost use Rattle.t_failed.specs.Failed.{failed_literals, probing, IsUnfailed};
 ghost use Rattle.t_failed.specs.Propagating.{IsRoot, AreKnown};
+ghost use Rattle.t_failed.specs.Taking.{IsFixed};
 
-use crate::candidates::{literal_at, put_literals};
+use crate::candidates::{first_queue, literal_at, wait_again};
+use crate::known::Known;
 use crate::root::{Root, follow, probe};
-use crate::trail::is_marked;
-use mp_clauses::{place, widen_marks};
-use mp_logic::{Clause, ListOf, Lit, NoMemory};
-use mp_store::{Ran, Rewrite, Store};
-use mp_turns::{Items, Turn, Turned, run_turns};
+use mp_logic::{Clause, Lit, NoMemory};
+use mp_store::{Ending, Ran, Rewrite, Store, spend};
 use std::alloc::Global;
 
 /// Fixes the negations of literals that fail, taking each literal in turn, in order of literals, and each again after one was
@@ -37,74 +36,112 @@ pub fn failed(alloc: Global, store: &mut Store, budget: Option<u64>) -> Result<R
     ensures turns { IfSome budget (λ b. length store.new.repairs ≤ length store.old.repairs + b) }
     ensures answer { IfOk result (λ ran. IsAnswer failed_literals budget store.old store.new ran) }
 {
-    let mut turn = Probing {
+    let mut tables = Probing {
         root: Root::new(alloc, store)?,
-        known: Vec::new(alloc),
+        known: Known::new(alloc),
     };
-    run_turns(alloc, store, &mut turn, budget)
+    take_each(alloc, store, &mut tables, budget)
 }
 
-/// What all clauses force, and marks of literals that do not fail.
+/// What all clauses force, and literals that do not fail.
 #[derive(Drop)]
 struct Probing {
     root: Root,
-    known: Vec<bool>,
+    known: Known,
 }
 
-impl Turn for Probing {
-    ghost use Rattle.mp_clauses.specs.Slots.{live_clauses};
-    ghost use Rattle.t_failed.specs.Failed.{probing};
-    ghost use Rattle.t_failed.specs.Propagating.{IsRoot, AreKnown};
-
-    ghost turning = { probing };
-
-    ghost fits = { λ t h. IsRoot h t.root.trail t.root.refuted × AreKnown (live_clauses h.slots) t.known.items };
-
-    fn candidates(&self, alloc: Global, store: &Store) -> Result<Items, NoMemory> {
-        let mut made = ListOf::new(alloc);
-        put_literals(store, &mut made)?;
-        Ok(made)
-    }
-
-    fn turn(
-        &mut self,
-        alloc: Global,
-        store: &mut Store,
-        item: u64,
-        again: &mut Items,
-    ) -> Result<Turned, NoMemory> {
-        // what holds of each store makes a change a smaller state
+/// Takes each literal in turn, and each again after one was fixed, until none waits, the store is refuted or the budget of
+/// turns is used up. It is the loop of `run_turns`, but that it knows which literals wait.
+fn take_each(
+    alloc: Global,
+    store: &mut Store,
+    tables: &mut Probing,
+    budget: Option<u64>,
+) -> Result<Ran, NoMemory>
+    requires unrefuted { store.old.refuted ≡ false }
+    requires root { IsRoot store.old tables.old.root.trail tables.old.root.refuted }
+    requires known { AreKnown (live_clauses store.old.slots) tables.old.known }
+    ensures run { IsRun failed_literals.LeavesAlone store.old store.new }
+    ensures stays { StaysWithin probing budget store.old store.new }
+    ensures answer { IfOk result (λ ran. IsAnswer failed_literals budget store.old store.new ran) }
+{
+    // what holds of each store turns the end of the queue into the end state
+    let _ = store.vars();
+    let mut queue = first_queue(alloc, store)?;
+    // the literals taken since the last fix
+    let mut taken = Vec::new(alloc);
+    let mut left = budget;
+    let mut changed = false;
+    'turns: while let Some(item) = queue.pop() {
+        if !spend(&mut left) {
+            return Ok(Ran {
+                ending: Ending::Spent,
+                changed,
+            });
+        }
+        taken.push(item)?;
+        let fixed = take(alloc, store, tables, item)?;
+        // what holds of each store
         let _ = store.vars();
-        let Some(lit) = literal_at(store, item) else {
-            return Ok(Turned::Idle);
-        };
-        if is_marked(&self.known, lit) {
-            return Ok(Turned::Idle);
+        if !fixed {
+            continue;
         }
-        if holds(store, &mut self.root, &mut self.known, lit)? {
-            return Ok(Turned::Idle);
-        }
-        let first = store.next_id();
-        fix(alloc, store, lit.negated())?;
+        changed = true;
         if store.refuted() {
-            return Ok(Turned::Changed);
+            return Ok(Ran {
+                ending: Ending::Finished,
+                changed,
+            });
         }
-        self.known.clear();
-        follow(store, &mut self.root, first)?;
-        put_literals(store, again)?;
-        Ok(Turned::Changed)
+        wait_again(store, &mut queue, &mut taken)?;
     }
+    Ok(Ran {
+        ending: Ending::Finished,
+        changed,
+    })
 }
 
-/// Whether the literal does not fail; then neither do those that follow from it, which are marked. Otherwise each model makes
-/// it false.
-fn holds(store: &Store, root: &mut Root, known: &mut Vec<bool>, lit: Lit) -> Result<bool, NoMemory>
+/// A turn on the literal of a place. It answers whether the literal fails: then its negation is fixed.
+fn take(alloc: Global, store: &mut Store, tables: &mut Probing, item: u64) -> Result<bool, NoMemory>
+    requires unrefuted { store.old.refuted ≡ false }
+    requires root { IsRoot store.old tables.old.root.trail tables.old.root.refuted }
+    requires known { AreKnown (live_clauses store.old.slots) tables.old.known }
+    ensures run { IsRun failed_literals.LeavesAlone store.old store.new }
+    ensures stays { probing.stays 1 store.old store.new }
+    ensures root { OnOk result (store.new.refuted ≡ false → IsRoot store.new tables.new.root.trail tables.new.root.refuted) }
+    ensures known { OnOk result (store.new.refuted ≡ false → AreKnown (live_clauses store.new.slots) tables.new.known) }
+    ensures turned { IfOk result (λ fixed. MatchBool fixed ((store.new.refuted ≡ true) ⊎ IsFixed store.old store.new) (IsUntouched store.old store.new × probing.IsIdle store.old item)) }
+{
+    // what holds of each store makes a change a smaller state
+    let _ = store.vars();
+    let Some(lit) = literal_at(store, item) else {
+        return Ok(false);
+    };
+    if tables.known.has(lit) {
+        return Ok(false);
+    }
+    if holds(store, &mut tables.root, &mut tables.known, lit)? {
+        return Ok(false);
+    }
+    let first = store.next_id();
+    fix(alloc, store, lit.negated())?;
+    if store.refuted() {
+        return Ok(true);
+    }
+    tables.known.clear();
+    follow(store, &mut tables.root, first)?;
+    Ok(true)
+}
+
+/// Whether the literal does not fail; then neither do those that follow from it, which get known. Otherwise each model makes
+/// it false. What follows from all clauses alone is not gone through.
+fn holds(store: &Store, root: &mut Root, known: &mut Known, lit: Lit) -> Result<bool, NoMemory>
     requires lit { IsUpTo store.now.vars lit }
     requires occurs { occurs lit.variable (live_clauses store.now.slots) ≡ true }
     requires root { IsRoot store.now root.old.trail root.old.refuted }
-    requires known { AreKnown (live_clauses store.now.slots) known.old.items }
+    requires known { AreKnown (live_clauses store.now.slots) known.old }
     ensures root { OnOk result (IsRoot store.now root.new.trail root.new.refuted) }
-    ensures known { OnOk result (AreKnown (live_clauses store.now.slots) known.new.items) }
+    ensures known { OnOk result (AreKnown (live_clauses store.now.slots) known.new) }
     ensures answer { IfOk result (λ yes. MatchBool yes (IsUnfailed (live_clauses store.now.slots) lit) (Implies (live_clauses store.now.slots) (negation lit ∷ []))) }
 {
     let from = root.trail.len();
@@ -112,29 +149,9 @@ fn holds(store: &Store, root: &mut Root, known: &mut Vec<bool>, lit: Lit) -> Res
         root.trail.cut(from);
         return Ok(false);
     }
-    mark(known, root.trail.literals())?;
+    known.add(&root.trail.literals()[from..])?;
     root.trail.cut(from);
     Ok(true)
-}
-
-/// Marks the literals.
-fn mark(known: &mut Vec<bool>, lits: &[Lit]) -> Result<(), NoMemory>
-    ensures { OnOk result ((p : ℕ) → marked known.new.items p ≡ (marked known.old.items p || has p lits.now)) }
-{
-    for lit in lits {
-        reach(known, *lit)?;
-        known[place(*lit)] = true;
-    }
-    Ok(())
-}
-
-/// Makes the table reach the literal.
-fn reach(known: &mut Vec<bool>, lit: Lit) -> Result<(), NoMemory>
-    ensures ok { OnOk result (place_of lit < length known.new.items) }
-    ensures same { (p : ℕ) → marked known.new.items p ≡ marked known.old.items p }
-{
-    widen_marks(known, place(lit) + 1)?;
-    Ok(())
 }
 
 /// Fixes a literal that each model makes true.

@@ -9,6 +9,7 @@
 
 mod candidates;
 mod failing;
+mod known;
 mod labels;
 mod pairing;
 mod partners;

@@ -1,5 +1,7 @@
+use Rattle.std.proofs.Common.{◌-◌, List, ap, drop, take, length}
+use Rattle.mp_logic.specs.Literal.{Literal}
 use Rattle.mp_clauses.specs.Slots.{live_clauses}
-use Rattle.t_failed.proofs.FailedTurns.{probe-true, probe-false, marks-known, cut-back, root-back, unfailed-by}
+use Rattle.t_failed.proofs.FailedTurns.{probe-true, probe-false, probe-known, cut-back, root-back, unfailed-by}
 use Rattle.t_failed.proofs.Roots.{failed-implied}
 use Rattle.t_failed.proofs.failing.holds.Goals as goal
 
@@ -20,7 +22,7 @@ returns-clause-root c = root-back c.args.store.now _ _ _ _ _ c.len-from.result c
 
 pub returns-clause-known : goal.returns-clause-known
 returns-clause-known c =
-    marks-known c.args.store.now _ _ c.literals.result.now c.args.lit c.args.known.now.items c.mark.new.known.items (probe-true c.args.store.now _ _ c.args.lit _ c.if-not-branch.false c.in_ok-probe.ensures.answer) c.literals.ensures.literals c.requires.known c.in_ok-mark.ensures
+    probe-known c.args.store.now _ _ _ _ c.len-from.result c.args.lit _ c.add.new.self (probe-true c.args.store.now _ _ c.args.lit _ c.if-not-branch.false c.in_ok-probe.ensures.answer) (ap (λ (xs : List Literal). take (length xs - c.len-from.result) (drop c.len-from.result xs)) c.literals.ensures.literals) c.requires.known c.in_ok-add.ensures
 
 pub returns-clause-answer : goal.returns-clause-answer
 returns-clause-answer c = unfailed-by c.args.store.now _ _ c.args.lit (probe-true c.args.store.now _ _ c.args.lit _ c.if-not-branch.false c.in_ok-probe.ensures.answer)

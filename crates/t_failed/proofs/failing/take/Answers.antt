@@ -1,19 +1,19 @@
 use Rattle.std.proofs.Common.{refl, sym, ◌∙◌}
 use Rattle.mp_clauses.specs.Slots.{live_clauses}
-use Rattle.t_failed.proofs.FailedTurns.{untouched-run, fixed-run, untouched-repairs, fixed-repairs, fixed-root, fixed-turned, idle-none, idle-unfailed, known-unfailed, none-known, holds-true, holds-false, negated-up, negated-occurs}
-use Rattle.t_failed.proofs.failing.ProbingTurn.turn.Goals as goal
+use Rattle.t_failed.proofs.FailedTurns.{untouched-run, fixed-run, untouched-repairs, fixed-repairs, fixed-root, fixed-change, idle-none, idle-unfailed, known-unfailed, none-known, holds-true, holds-false, negated-up, negated-occurs}
+use Rattle.t_failed.proofs.failing.take.Goals as goal
 
 pub returns-in_default-clause-run : goal.returns-in_default-clause-run
 returns-in_default-clause-run c = untouched-run c.args.store.now c.args.store.now refl
 
 pub returns-in_default-clause-turned : goal.returns-in_default-clause-turned
-returns-in_default-clause-turned c = (refl, c.requires.empty, idle-none c.args.store.now c.args.item c.in_default.ensures)
+returns-in_default-clause-turned c = (refl, idle-none c.args.store.now c.args.item c.in_default.ensures)
 
-pub returns-then-is_marked-clause-run : goal.returns-then-is_marked-clause-run
-returns-then-is_marked-clause-run c = untouched-run c.args.store.now c.args.store.now refl
+pub returns-then-has-clause-run : goal.returns-then-has-clause-run
+returns-then-has-clause-run c = untouched-run c.args.store.now c.args.store.now refl
 
-pub returns-then-is_marked-clause-turned : goal.returns-then-is_marked-clause-turned
-returns-then-is_marked-clause-turned c = (refl, c.requires.empty, idle-unfailed c.args.store.now c.args.item c.in-Some.lit c.in-Some.ensures.0 (known-unfailed (live_clauses c.args.store.now.slots) _ c.in-Some.lit c.requires.fits.1 (sym (rw c.deref.ensures.value at c.is_marked.ensures) ∙ c.if-is_marked.true)))
+pub returns-then-has-clause-turned : goal.returns-then-has-clause-turned
+returns-then-has-clause-turned c = (refl, idle-unfailed c.args.store.now c.args.item c.in-Some.lit c.in-Some.ensures.0 (known-unfailed (live_clauses c.args.store.now.slots) _ c.in-Some.lit c.requires.known (sym c.has.ensures ∙ c.if-has.true)))
 
 pub returns-in_err-holds-clause-run : goal.returns-in_err-holds-clause-run
 returns-in_err-holds-clause-run c = untouched-run c.args.store.now c.args.store.now refl
@@ -22,7 +22,7 @@ pub returns-then-branch-clause-run : goal.returns-then-branch-clause-run
 returns-then-branch-clause-run c = untouched-run c.args.store.now c.args.store.now refl
 
 pub returns-then-branch-clause-turned : goal.returns-then-branch-clause-turned
-returns-then-branch-clause-turned c = (refl, c.requires.empty, idle-unfailed c.args.store.now c.args.item c.in-Some.lit c.in-Some.ensures.0 (holds-true (live_clauses c.args.store.now.slots) c.in-Some.lit _ c.if-branch.true c.in_ok-holds.ensures.answer))
+returns-then-branch-clause-turned c = (refl, idle-unfailed c.args.store.now c.args.item c.in-Some.lit c.in-Some.ensures.0 (holds-true (live_clauses c.args.store.now.slots) c.in-Some.lit _ c.if-branch.true c.in_ok-holds.ensures.answer))
 
 pub fix-requires-clause-within : goal.fix-requires-clause-within
 fix-requires-clause-within c = negated-up c.args.store.now.vars c.in-Some.lit c.negated.result c.negated.ensures c.in-Some.ensures.1
@@ -54,14 +54,6 @@ returns-in_err-follow-clause-run c =
 pub returns-in_err-follow-clause-stays : goal.returns-in_err-follow-clause-stays
 returns-in_err-follow-clause-stays c = fixed-repairs c.args.store.now c.fix.new.store c.negated.result c.in_ok-fix.ensures.ok
 
-pub returns-in_err-put_literals-clause-run : goal.returns-in_err-put_literals-clause-run
-returns-in_err-put_literals-clause-run c =
-    fixed-run c.args.store.now c.fix.new.store c.negated.result c.vars.ensures.sound (negated-up c.args.store.now.vars c.in-Some.lit c.negated.result c.negated.ensures c.in-Some.ensures.1) (holds-false (live_clauses c.args.store.now.slots) c.in-Some.lit c.negated.result _ c.negated.ensures c.if-branch.false c.in_ok-holds.ensures.answer)
-    c.in_ok-fix.ensures.ok
-
-pub returns-in_err-put_literals-clause-stays : goal.returns-in_err-put_literals-clause-stays
-returns-in_err-put_literals-clause-stays c = fixed-repairs c.args.store.now c.fix.new.store c.negated.result c.in_ok-fix.ensures.ok
-
 pub returns-clause-run : goal.returns-clause-run
 returns-clause-run c =
     fixed-run c.args.store.now c.fix.new.store c.negated.result c.vars.ensures.sound (negated-up c.args.store.now.vars c.in-Some.lit c.negated.result c.negated.ensures c.in-Some.ensures.1) (holds-false (live_clauses c.args.store.now.slots) c.in-Some.lit c.negated.result _ c.negated.ensures c.if-branch.false c.in_ok-holds.ensures.answer)
@@ -70,10 +62,10 @@ returns-clause-run c =
 pub returns-clause-stays : goal.returns-clause-stays
 returns-clause-stays c = fixed-repairs c.args.store.now c.fix.new.store c.negated.result c.in_ok-fix.ensures.ok
 
-pub returns-clause-fits : goal.returns-clause-fits
-returns-clause-fits c = λ n. (c.in_ok-follow.ensures.root, none-known (live_clauses c.fix.new.store.slots) _ c.clear.ensures.items)
+pub returns-clause-known : goal.returns-clause-known
+returns-clause-known c = λ n. none-known (live_clauses c.fix.new.store.slots) _ c.clear.ensures
 
 pub returns-clause-turned : goal.returns-clause-turned
 returns-clause-turned c =
-    fixed-turned c.args.store.now c.fix.new.store c.args.item c.put_literals.new.made c.negated.result c.vars.ensures.sound c.refuted.ensures.sound (negated-up c.args.store.now.vars c.in-Some.lit c.negated.result c.negated.ensures c.in-Some.ensures.1)
-    (negated-occurs (live_clauses c.args.store.now.slots) c.in-Some.lit c.negated.result c.negated.ensures c.in-Some.ensures.2) c.in_ok-fix.ensures.ok (λ n. c.in_ok-put_literals.ensures)
+    fixed-change c.args.store.now c.fix.new.store c.negated.result (negated-up c.args.store.now.vars c.in-Some.lit c.negated.result c.negated.ensures c.in-Some.ensures.1) (negated-occurs (live_clauses c.args.store.now.slots) c.in-Some.lit c.negated.result c.negated.ensures c.in-Some.ensures.2)
+    c.in_ok-fix.ensures.ok

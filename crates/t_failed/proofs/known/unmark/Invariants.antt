@@ -1,0 +1,11 @@
+use Rattle.std.proofs.Common.{◌≡◌, ℕ, length, take, not}
+use Rattle.std.specs.Prelude.{◌&&◌}
+use Rattle.mp_clauses.specs.Places.{has}
+use Rattle.mp_clauses.specs.Tables.{marked}
+use Rattle.t_failed.proofs.known.unmark.Given as goal
+
+abbrev pub invariant-loop-lit : goal.invariant-loop-lit
+invariant-loop-lit l = record {
+  len : length l.marks.items ≡ length l.initial.marks.items;
+  marks : (p : ℕ) → marked l.marks.items p ≡ (marked l.initial.marks.items p && not (has p (take l.lit-index l.lits)));
+}
