@@ -6,8 +6,10 @@
 Of each run it checks that the status is 0, that the written instance has a hard model exactly if the original has one, that its
 optimum with the offset is the original's, that an optimal answer, carried back, costs just that, also by what `reconstruct` and
 `evaluate` say, that the last counts of the log are the sizes of the written instance where nothing is merged, that a map of the
-first version is upgraded to the one of the second, and that nothing is written where the text is broken. It prints the first
-instance that fails, made as small as it can be by leaving out lines, and ends with status 1. It is no part of the gate.
+first version is upgraded to the one of the second, and that nothing is written where the text is broken. Then it changes a byte or
+a line of the instance, the map and the solution: each must end with 0 or with a status that refuses such a text, and a refusal
+writes nothing. It prints the first instance that fails, made as small as it can be by leaving out lines, and ends with status 1. It
+is no part of the gate.
 """
 import itertools
 import os
@@ -119,13 +121,51 @@ def broken_fault(draw, lines):
     return None
 
 
+def mutated(draw, text):
+    """The bytes with a small change."""
+    place, end = draw.randrange(len(text) + 1), draw.randrange(len(text) + 1)
+    lines = text.splitlines(keepends=True)
+    return draw.choice([
+        text[:place] + bytes([draw.choice(b"0123456789 -chvos\n\r\t+x\0\xff")]) + text[place:],
+        text[:place] + bytes([draw.choice(b"0123456789 -chvos\n\r\t+x\0\xff")]) + text[place + 1 :],
+        text[:place] + text[place + 1 :],
+        text[:place],
+        text[: min(place, end)] + text[max(place, end) :],
+        b"".join(draw.sample(lines, len(lines))),
+        b"".join(lines + lines[-1:]),
+    ])  # fmt: skip
+
+
+def mutation_fault(draw):
+    """What is wrong with runs on changed texts of the files that a run left, or none."""
+    runs = {
+        "instance": [("preprocess changed --mapfile=made", {0, 5, 6}), ("evaluate changed --solution=answer", {0, 5, 6, 8, 9})],
+        "map": [("reconstruct answer --mapfile=changed", {0, 7, 8}), ("upgrade changed --mapfile=made", {0, 7})],
+        "answer": [("reconstruct changed --mapfile=map --original=instance", {0, 8, 9}), ("evaluate instance --solution=changed", {0, 8, 9})],
+    }
+    # there is none where no values are a hard model
+    if not Path("answer").exists():
+        return None
+    for name in runs:
+        text = mutated(draw, Path(name).read_bytes())
+        Path("changed").write_bytes(text)
+        for words, statuses in runs[name]:
+            Path("made").unlink(missing_ok=True)
+            did = run(*words.split())
+            if did.returncode not in statuses:
+                return f"{words} ends with {did.returncode} where {name} is {text!r}"
+            if did.returncode != 0 and (did.stdout or Path("made").exists() or did.stderr.count("\n") != 1):
+                return f"{words} is refused and writes {did.stdout!r}, {did.stderr!r} where {name} is {text!r}"
+    return None
+
+
 def main():
     draw, runs = random.Random(int(sys.argv[1])), int(sys.argv[2])
     with tempfile.TemporaryDirectory() as folder:
         os.chdir(folder)
         for _ in range(runs):
             lines, script, options = drawn_instance(draw), drawn_script(draw), draw.choice([[], ["--merge=yes"]])
-            wrong = fault(lines, script, options) or (broken_fault(draw, lines) if lines else None)
+            wrong = fault(lines, script, options) or mutation_fault(draw) or (broken_fault(draw, lines) if lines else None)
             if wrong:
                 place = 0
                 while place < len(lines):
