@@ -1,4 +1,3 @@
-pub mod KeyOrder
 pub mod Lists
 pub mod Marks
 pub mod Numbers

@@ -16,7 +16,7 @@ use Rattle.mp_logic.specs.Labelled.{IsLabelled, names_rise}
 use Rattle.mp_logic.specs.EndStates.{NoUnits}
 use Rattle.mp_logic.specs.declared.instances.Cost.{Cost}
 use Rattle.mp_logic.specs.declared.instances.Soft.{Soft}
-use Rattle.mp_logic.proofs.Members.{Contains-none, Contains-first, Contains-later, Contains-cases, Contains-one, All-from_contained, satisfied}
+use Rattle.mp_logic.proofs.Members.{Contains-first, Contains-later, Contains-one, All-from_contained, satisfied}
 use Rattle.mp_labels.specs.UnitForm.{has_variable, has_cost, is_used, names_of, number_of, renamed, soft_of, IsUnitForm, IsPlainForm, Occurs, refuted_form}
 use Rattle.mp_labels.proofs.Lists.{Contains-map, Contains-from_map, sum_by-map, Contains-filter, Contains-from_filter, Contains-range}
 use Rattle.mp_labels.proofs.Numbers.{filter-range_rises, named_at, number_bounds, number_at_place}

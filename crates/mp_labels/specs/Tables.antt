@@ -1,4 +1,4 @@
--- What private functions say of their tables; no public clause cites these.
+-- The numbers of variables in a table, and clauses under them.
 use Rattle.std.specs.Prelude.{◌≡◌, ℕ, ◌-◌, ◌≤◌, List, [], ◌∷◌, Contains, map, length, slice_index}
 use Rattle.std.specs.List.Sorted.{IsPermutation, IsNonDecreasingBy}
 use Rattle.mp_logic.specs.Literal.{Literal, negation}

@@ -7,11 +7,11 @@
 #![tactic(auto)]
 
 mod charges;
-mod clause_rows;
 mod draft;
 mod label_view;
 mod labelled;
 mod names;
+pub mod renumbering;
 mod unit_form;
 mod written;
 

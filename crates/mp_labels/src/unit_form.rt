@@ -1,22 +1,18 @@
 ghost use Rattle.std.specs.Prelude.{◌≡◌, ◌+◌, ◌≤◌, ℕ, [], ◌∷◌, All, IfOk, map, max, length, nat_eq};
 ghost use Rattle.std.specs.List.{list_any};
-ghost use Rattle.std.specs.List.Sorted.{IsPermutation, IsSorted};
-ghost use Rattle.std.specs.Cmp.Lexicographic.{slice_cmp};
-ghost use Rattle.mp_logic.specs.Normal.{lit_cmp};
 ghost use Rattle.mp_logic.specs.Truth.{weights_of};
 ghost use Rattle.mp_logic.specs.Keeping.{total_of};
 ghost use Rattle.mp_logic.specs.Carrying.{Presents};
 ghost use Rattle.mp_logic.specs.EndStates.{NoUnits};
 ghost use Rattle.mp_labels.specs.UnitForm.{IsPlainForm, IsUnitForm, Occurs, refuted_form};
-ghost use Rattle.mp_labels.specs.Tables.{HasNumber, by_number, soft_by_number, AreSofts};
+ghost use Rattle.mp_labels.specs.Tables.{HasNumber, soft_by_number, AreSofts};
 
-use crate::clause_rows::{ClauseRow, literal_at, ordered};
 use crate::labelled::Labelled;
-use crate::names::{names_of, numbers_of};
+use crate::names::names_of;
+use crate::renumbering::{numbers_of, renumbered, renumbered_lit};
 use crate::written::Written;
 use mp_logic::{
     Clause, Clauses, Cost, Costs, Instance, Lit, Names, NoMemory, Repairs, Soft, Softs,
-    compare_clauses,
 };
 use std::alloc::Global;
 
@@ -98,43 +94,6 @@ fn unit(alloc: Global, lit: Lit) -> Result<Clause, NoMemory>
     ensures { IfOk result (λ made. made ≡ lit ∷ []) }
 {
     Clause::from_slice(alloc, &[lit])
-}
-
-// The clauses under the numbers of their variables, in the order of clauses.
-fn renumbered(alloc: Global, numbers: &[u32], clauses: &Clauses) -> Result<Clauses, NoMemory>
-    requires { All (All (HasNumber numbers.now)) clauses.now }
-    ensures moved { IfOk result (λ made. IsPermutation (map (map (by_number numbers.now)) clauses.now) made) }
-    ensures sorted { IfOk result (λ made. IsSorted (slice_cmp lit_cmp) made) }
-{
-    let rows = ordered(alloc, clauses)?;
-    let mut made = Vec::with_capacity(alloc, rows.len())?;
-    for row in &rows {
-        made.push(renumbered_clause(alloc, numbers, row)?)?;
-    }
-    // Where numbers rise with variables this is one pass: the clauses were made in their order, also in memory.
-    made.sort_unstable_by(|a, b| compare_clauses(a, b));
-    Ok(Clauses::from_vec(made))
-}
-
-// The clause of a row under the numbers of its variables.
-fn renumbered_clause(alloc: Global, numbers: &[u32], row: &ClauseRow) -> Result<Clause, NoMemory>
-    requires { All (HasNumber numbers.now) row.now.clause.now }
-    ensures { IfOk result (λ made. made ≡ map (by_number numbers.now) row.now.clause.now) }
-{
-    let len = row.clause.len();
-    let mut made = Clause::with_room(alloc, len)?;
-    for place in 0..len {
-        let lit = literal_at(row, place);
-        made.push(renumbered_lit(numbers, lit))?;
-    }
-    Ok(made)
-}
-
-fn renumbered_lit(numbers: &[u32], lit: Lit) -> Lit
-    requires { HasNumber numbers.now lit }
-    ensures { result ≡ by_number numbers.now lit }
-{
-    Lit::new(numbers[lit.variable as usize - 1], lit.negative)
 }
 
 // A unit soft clause of the negation of each cost literal, in order of variable.

@@ -13,8 +13,8 @@ numbers_of-requires c =
     let names : c.in_ok-names.names ≡ variables_of f = c.in_ok-names.ensures ∙ ap variables_of (sym c.whole.view_is) in
     subst (λ (xs : List ℕ). IsTrue (names_rise 0 f.vars xs)) (sym names) (variables_rising f)
 
-pub renumbered_hard-requires : goal.renumbered_hard-requires
-renumbered_hard-requires c =
+pub renumbered-requires : goal.renumbered-requires
+renumbered-requires c =
     let f : Formula = record { vars = c.whole.inside.vars; hard = c.whole.inside.hard; soft = c.whole.inside.soft } in
     let names : c.in_ok-names.names ≡ variables_of f = c.in_ok-names.ensures ∙ ap variables_of (sym c.whole.view_is) in
     let table = subst (λ (xs : List ℕ). IsNumbering xs c.in_ok-numbers.numbers.items) names c.in_ok-numbers.ensures in

@@ -1,7 +1,7 @@
 use Rattle.std.proofs.Common.{rules, true, false}
 use Rattle.mp_labels.proofs.Marks.{marked_range}
-use Rattle.mp_labels.proofs.names.marked.Goals as goal
-use Rattle.mp_labels.proofs.names.marked.Goals.{then-is_used+in_ok-push, else-is_used}
+use Rattle.mp_labels.proofs.renumbering.marked.Goals as goal
+use Rattle.mp_labels.proofs.renumbering.marked.Goals.{then-is_used+in_ok-push, else-is_used}
 
 pub loop-place-preserved : goal.loop-place-preserved
 loop-place-preserved c =

@@ -6,7 +6,7 @@ use Rattle.std.proofs.lemmas.List.Sorted.{ranks_by, answers_always}
 use Rattle.mp_logic.specs.Literal.{Literal}
 use Rattle.mp_logic.specs.Normal.{lit_cmp}
 use Rattle.mp_logic.proofs.LiteralOrder.{lit_cmp_total}
-use Rattle.mp_merging.proofs.renumbering.renumbered_hard.Goals as goal
+use Rattle.mp_labels.proofs.renumbering.renumbered.Goals as goal
 
 pub returns-clause-sorted : goal.returns-clause-sorted
 returns-clause-sorted c =

@@ -1,6 +1,6 @@
 use Rattle.std.proofs.Common.{◌≡◌, drop, length, replicate}
 use Rattle.mp_labels.proofs.Numbers.{numbered}
-use Rattle.mp_merging.proofs.renumbering.numbers_of.Given as goal
+use Rattle.mp_labels.proofs.renumbering.numbers_of.Given as goal
 
 abbrev pub invariant-loop-name : goal.invariant-loop-name
 invariant-loop-name l = record {

@@ -3,7 +3,7 @@ use Rattle.std.proofs.lemmas.List.{at_drop_all, length-replicate}
 use Rattle.std.proofs.lemmas.List.Elements.{Contains-get_or}
 use Rattle.mp_labels.specs.Tables.{IsNumbering}
 use Rattle.mp_labels.proofs.Numbers.{length_names, name_bounds, numbered, IsNumbering-numbered}
-use Rattle.mp_labels.proofs.names.numbers_of.Goals as goal
+use Rattle.mp_labels.proofs.renumbering.numbers_of.Goals as goal
 
 pub overflow_add-number : goal.overflow_add-number
 overflow_add-number c =
