@@ -5,7 +5,7 @@ use Rattle.std.specs.Ordering.{nat_cmp}
 use Rattle.std.specs.List.Sorted.{IsBinarySearchResult}
 use Rattle.std.specs.Cmp.{nat_eq_equiv}
 use Rattle.std.specs.List.{list_any, IsDistinct}
-use Rattle.std.proofs.lemmas.Bool.{cases_Bool, cases_lt, cases_eq, ne_eqb, eqb-true, and_parts, leb-true}
+use Rattle.std.proofs.lemmas.Bool.{cases_Bool, cases_lt, cases_eq, ne_eqb, eqb-true, and_parts, leb-true, true≢false}
 use Rattle.std.proofs.lemmas.List.{get_or_append_left, get_or-take, get_or_past, length-take-le}
 use Rattle.std.proofs.lemmas.List.Elements.{Contains-get_or, Contains-append_cases}
 use Rattle.std.proofs.lemmas.Map.Keys.{IsDistinct-from_apart, IsDistinct-push}
@@ -17,7 +17,7 @@ use Rattle.mp_logic.proofs.Members.{Contains-one}
 use Rattle.mp_clauses.specs.Places.{place_of}
 use Rattle.mp_clauses.specs.Slots.{clause_of}
 use Rattle.mp_clauses.specs.Occurrences.{ids_with, slot_has}
-use Rattle.mp_clauses.specs.Tables.{rising_from}
+use Rattle.mp_clauses.specs.Tables.{rising_from, marked}
 use Rattle.mp_clauses.proofs.Found.{any-by, any-found, exact-ids, ids_where-rising}
 use Rattle.mp_clauses.proofs.Unlinked.{rising-order}
 use Rattle.std.proofs.lemmas.List.Sorted.{searched}
@@ -25,7 +25,7 @@ use Rattle.mp_clauses.proofs.Pricing.{same-place}
 use Rattle.mp_store.specs.Held.{Held}
 use Rattle.mp_store.specs.Techniques.{IsRun}
 use Rattle.mp_resting.specs.declared.seen.Seen.{Seen}
-use Rattle.mp_resting.specs.Resting.{IsBefore, IsCount, AreCounts, IsSeen, HasKept, IsRested}
+use Rattle.mp_resting.specs.Resting.{IsBefore, IsCount, AreCounts, IsSeen, HasKept, IsRested, AreKeptSince, IsRestedBy}
 
 -- each store comes before itself, and stays before what a technique leaves
 pub before-itself : (h : Held) → IsBefore h h
@@ -219,3 +219,54 @@ kept-at l seen before now ids count n s e le low c some k =
     let many : n ≤ length (ids_with (place_of l) now.slots) = subst (λ (xs : List ℕ). n ≤ length xs) e le in
     let under : (i : ℕ) → i < n → get_or (ids_with (place_of l) now.slots) i 0 < seen.mark = λ i lt. subst (λ (xs : List ℕ). get_or xs i 0 < seen.mark) e (low i lt) in
     kept-all l seen before now n s many (ids_where-rising (slot_has (place_of l)) 0 now.slots) under (omega (arith, c, some, k))
+
+-- marks, two more at the end
+last-mark : (xs : List Bool) (b : Bool) → get_or (xs ++ b ∷ []) (length xs) false ≡ b
+last-mark [] b = refl
+last-mark (x ∷ xs) b = last-mark xs b
+
+kept-more : (marks : List Bool) (seen : Seen) (now : Held) (l : Literal) (b : Bool) → AreKeptSince marks seen now → place_of l ≡ length marks → (b ≡ true → (before : Held) → IsSeen seen before now → HasKept before now l) → AreKeptSince (marks ++ b ∷ []) seen now
+kept-more marks seen now l b a p own before s k t =
+    elim (cases_lt (place_of k) (length marks)) [
+      | inl lt ↦ a before s k (sym (get_or_append_left marks (b ∷ []) false (place_of k) lt) ∙ t)
+      | inr ge ↦ elim (cases_eq (place_of k) (place_of l)) [
+        | inl e ↦
+            let same : k ≡ l = same-place k l e in
+            let at : get_or (marks ++ b ∷ []) (place_of k) false ≡ b = ap (λ i. get_or (marks ++ b ∷ []) i false) (e ∙ p) ∙ last-mark marks b in
+            subst (HasKept before now) (sym same) (own (sym at ∙ t) before s)
+        | inr d ↦
+            let long = length-append marks (b ∷ []) in
+            let at : get_or (marks ++ b ∷ []) (place_of k) false ≡ false = get_or_past (marks ++ b ∷ []) (place_of k) false (omega (arith, long, ge, d, p)) in
+            absurd (true≢false (sym t ∙ at))
+      ]
+    ]
+
+pub kept-both : (marks : List Bool) (seen : Seen) (now : Held) (earlier : ℕ) (p q : Literal) (b c : Bool) → length marks ≡ 2 * earlier + 2 → AreKeptSince marks seen now → p.variable ≡ earlier + 1 → p.negative ≡ false → q.variable ≡ earlier + 1 → q.negative ≡ true → (b ≡ true → (before : Held) → IsSeen seen before now → HasKept before now p) → (c ≡ true → (before : Held) → IsSeen seen before now → HasKept before now q) → (length ((marks ++ b ∷ []) ++ c ∷ []) ≡ 2 * (earlier + 1) + 2) × AreKeptSince ((marks ++ b ∷ []) ++ c ∷ []) seen now
+kept-both marks seen now earlier p q b c size a pv ps qv qs own other =
+    let at = place-sign p (earlier + 1) false pv ps in
+    let next = place-sign q (earlier + 1) true qv qs in
+    let one = length-append marks (b ∷ []) in
+    let two = length-append (marks ++ b ∷ []) (c ∷ []) in
+    (omega (arith, size, one, two), kept-more (marks ++ b ∷ []) seen now q c (kept-more marks seen now p b a (omega (arith, at, size)) own) (omega (arith, next, size, one)) other)
+
+-- what is remembered, with marks
+pub rested-by : (IsIdle : Held → ℕ → Type 0) (seen : Seen) (marks : List Bool) (now : Held) → IsRested IsIdle seen now → AreKeptSince marks seen now → IsRestedBy IsIdle seen marks now
+rested-by IsIdle seen marks now s k = elim s [ inl n ↦ inl n | inr w ↦ inr (w.0, w.1, w.2, k w.0 w.1) ]
+
+-- it stays so over a run that leaves the clauses of the literals that are marked then
+pub rested-by-run : (IsIdle : Held → ℕ → Type 0) (L : State → State → List Repair → Type 0) (seen : Seen) (marks left : List Bool) (old new : Held) → IsRestedBy IsIdle seen marks old → IsRun L old new
+    → ((l : Literal) → marked left (place_of l) ≡ true → (marked marks (place_of l) ≡ true) × ((id : ℕ) (c : List Literal) → clause_of old.slots id ≡ Some c → Contains c l → clause_of new.slots id ≡ Some c))
+    → IsRestedBy IsIdle seen left new
+rested-by-run IsIdle L seen marks left old new s r stay =
+    elim s [
+      | inl n ↦ inl n
+      | inr w ↦ inr (
+        w.0,
+        seen-run L seen w.0 old new w.1 r,
+        w.2,
+        λ l t.
+            let own = stay l t in
+            let kept = w.3 l own.0 in
+            record { clauses = λ id c e i. own.1 id c (kept.clauses id c e i) i; free = kept.free },
+      )
+    ]

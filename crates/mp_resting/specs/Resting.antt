@@ -1,8 +1,9 @@
 -- When candidates need no look: in a store before, none admitted a change, and nothing has touched these since.
-use Rattle.std.specs.Prelude.{◌≡◌, ◌⊎◌, ℕ, ◌<◌, ◌≤◌, List, suc, length, Contains, Some, slice_index_or}
+use Rattle.std.specs.Prelude.{◌≡◌, ◌⊎◌, ℕ, ◌<◌, ◌≤◌, Bool, true, List, suc, length, Contains, Some, slice_index_or}
 use Rattle.mp_logic.specs.Literal.{Literal, negation, IsUpTo}
 use Rattle.mp_clauses.specs.Places.{place_of}
 use Rattle.mp_clauses.specs.Slots.{clause_of}
+use Rattle.mp_clauses.specs.Tables.{marked}
 use Rattle.mp_clauses.specs.Occurrences.{ids_with}
 use Rattle.mp_clauses.specs.Weighing.{weight_in}
 use Rattle.mp_store.specs.Held.{Held}
@@ -41,3 +42,15 @@ pub record HasKept (before now : Held) (l : Literal) : Type 0 where
 -- nothing is remembered, or a store before in which all were idle
 abbrev pub IsRested : (Held → ℕ → Type 0) → Seen → Held → Type 0
 IsRested IsIdle seen now = (seen.mark ≡ 0) ⊎ ((before : Held) × IsSeen seen before now × ((i : ℕ) → IsIdle before i))
+
+-- the marked literals have kept their clauses
+abbrev pub AreKept : List Bool → Held → Held → Type 0
+AreKept marks before now = (l : Literal) → marked marks (place_of l) ≡ true → HasKept before now l
+
+-- the same, whatever store is remembered
+abbrev pub AreKeptSince : List Bool → Seen → Held → Type 0
+AreKeptSince marks seen now = (before : Held) → IsSeen seen before now → AreKept marks before now
+
+-- nothing is remembered, or a store before in which all were idle and since which the marked literals have kept their clauses
+abbrev pub IsRestedBy : (Held → ℕ → Type 0) → Seen → List Bool → Held → Type 0
+IsRestedBy IsIdle seen marks now = (seen.mark ≡ 0) ⊎ ((before : Held) × IsSeen seen before now × ((i : ℕ) → IsIdle before i) × AreKept marks before now)

@@ -5,6 +5,7 @@ use Rattle.std.specs.List.{find}
 use Rattle.std.specs.List.Sorted.{IsStrictlyIncreasing}
 use Rattle.std.proofs.Math.Nat.{mul-le-mul_left}
 use Rattle.std.proofs.lemmas.Bool.{cases_Bool, eqb-true, eq-eqb, or_cases, or_left, and_parts, true≢false, false≢true}
+use Rattle.std.proofs.lemmas.List.{append-nil}
 use Rattle.std.proofs.lemmas.List.Elements.{All-contains, Contains-append_cases, Contains-append_left, Contains-append_right}
 use Rattle.std.proofs.lemmas.List.Sums.{sum_by-cons}
 use Rattle.mp_logic.specs.Literal.{Literal, negation, IsUpTo}
@@ -22,7 +23,7 @@ use Rattle.mp_logic.proofs.Rising.{rising_is_normal}
 use Rattle.mp_logic.proofs.Blocked.{blocked_keeps, unblocked_stays}
 use Rattle.mp_clauses.specs.Places.{place_of, is_in}
 use Rattle.mp_store.specs.Held.{Held, labelled_of, IsUntouched}
-use Rattle.mp_clauses.specs.Slots.{clause_of, is_live, live_clauses}
+use Rattle.mp_clauses.specs.Slots.{clause_of, is_live, live_clauses, cleared}
 use Rattle.mp_clauses.specs.Weighing.{costs_of, weight_in}
 use Rattle.mp_store.specs.Clashing.{all_clash, clash_beside}
 use Rattle.mp_clauses.specs.Occurrences.{ids_with}
@@ -32,7 +33,7 @@ use Rattle.mp_store.specs.Measures.{IsSmaller}
 use Rattle.mp_store.specs.Replacing.{replaced, clauses_after, IsReplacement, slot_worth, CoversStay}
 use Rattle.mp_store.specs.Techniques.{IsRun, KeepsIds}
 use Rattle.mp_clauses.proofs.Found.{exact-ids}
-use Rattle.mp_store.proofs.KeptFixing.{live-at, live-id, store-variables}
+use Rattle.mp_store.proofs.KeptFixing.{live-at, live-id, store-variables, cleared-other}
 use Rattle.mp_store.proofs.Replaced.{replacing_leaves, replaced_clauses, replaced_sums, replaced_count, replacing_is_smaller}
 use Rattle.mp_store.proofs.Runs.{run-same}
 use Rattle.mp_store.proofs.Clashes.{free-literal, free-weight, clash-found, clash-by, all_clash-found, all_clash-missed, all-one, all-none, proper-set, find-some, find-none}
@@ -141,6 +142,14 @@ dropped-by id old new c l near live found is named =
 
 new-slots : (id : ℕ) (old new : Held) (near : List ℕ) → (d : IsDropped id old new near) → new.slots ≡ replaced (id ∷ []) [] old.slots
 new-slots id old new near d = ap (λ (h : Held). h.slots) d.is
+
+-- another clause than the dropped one stays
+pub other-stays : (id k : ℕ) (old new : Held) (near : List ℕ) (c : List Literal) → (d : IsDropped id old new near) → clause_of old.slots k ≡ Some c → (d.clause ≡ c → ⊥) → clause_of new.slots k ≡ Some c
+other-stays id k old new near c d live other =
+    elim (cases_Bool (is_in k (id ∷ []))) [
+      | inl t ↦ let both : Some d.clause ≡ Some c = sym d.live ∙ (ap (clause_of old.slots) (one-in id k t) ∙ live) in let same : d.clause ≡ c = cc in absurd (other same)
+      | inr f ↦ ap (λ s. clause_of s k) (new-slots id old new near d) ∙ (ap (λ s. clause_of s k) (append-nil (cleared (id ∷ []) old.slots)) ∙ (cleared-other (id ∷ []) old.slots k f ∙ live))
+    ]
 
 pub dropped-idle : (id : ℕ) (old new : Held) (near : List ℕ) → IsDropped id old new near → IsIdle new id
 dropped-idle id old new near d c e =

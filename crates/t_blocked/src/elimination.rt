@@ -9,7 +9,8 @@
 //! being blocked goes, so only those with the negation of a dropped literal are queued again.
 //!
 //! For the same reason a later run passes over a literal where none of these clauses has gone since: what was remembered of
-//! the store after an earlier run tells, without a look at them.
+//! the store after an earlier run tells, without a look at them. It is asked once a literal, when a run begins; from then on
+//! the literals of dropped clauses lose their marks.
 ghost use Rattle.std.specs.Prelude.{◌≡◌, ◌≤◌, ◌+◌, ◌++◌, IfOk, IfSome, OnOk, OnErr, All, Contains, List, true, false, Some, length};
 ghost use Rattle.std.specs.List.{find};
 ghost use Rattle.mp_logic.specs.Literal.{Literal, IsUpTo, negation};
@@ -22,12 +23,12 @@ ghost use Rattle.mp_clauses.specs.Weighing.{weight_in};
 ghost use Rattle.mp_store.specs.Rewriting.{after};
 ghost use Rattle.mp_store.specs.Techniques.{IsRun, IsAnswer, KeepsIds};
 ghost use Rattle.mp_turns.specs.Underway.{StaysWithin};
-ghost use Rattle.mp_resting.specs.Resting.{IsRested};
+ghost use Rattle.mp_resting.specs.Resting.{IsRested, IsRestedBy};
 ghost use Rattle.t_blocked.specs.BlockedClauses.{blocked_clauses, blocking};
 ghost use Rattle.t_blocked.specs.Dropping.{blocks, AreNear, near_in, dropping_of};
 
 use mp_logic::{ListOf, Lit, NoMemory};
-use mp_resting::Seen;
+use mp_resting::{Kept, Seen};
 use mp_store::{ClauseId, Ending, LiteralSet, Ran, Store, repair_setting};
 use mp_turns::{Items, Turn, Turned, live_clause_ids, replace, run_turns};
 use std::alloc::Global;
@@ -86,26 +87,29 @@ fn take_turns(
     let mut turn = Blocking {
         hand: LiteralSet::new(alloc),
         near: Vec::new(alloc),
+        kept: Kept::of(alloc, store, seen)?,
         seen,
     };
     run_turns(alloc, store, &mut turn, budget)
 }
 
-/// The literals of the clause whose turn it is, the ids of the clauses near it, and what is remembered.
+/// The literals of the clause whose turn it is, the ids of the clauses near it, the literals that have kept their clauses,
+/// and what is remembered.
 #[derive(Drop)]
 struct Blocking<'a> {
     hand: LiteralSet,
     near: Vec<ClauseId>,
+    kept: Kept,
     seen: &'a Seen,
 }
 
 impl<'a> Turn for Blocking<'a> {
-    ghost use Rattle.mp_resting.specs.Resting.{IsRested};
+    ghost use Rattle.mp_resting.specs.Resting.{IsRestedBy};
     ghost use Rattle.t_blocked.specs.BlockedClauses.{blocking};
 
     ghost turning = { blocking };
 
-    ghost fits = { λ t h. IsRested blocking.IsIdle t.seen.now h };
+    ghost fits = { λ t h. IsRestedBy blocking.IsIdle t.seen.now t.kept h };
 
     fn candidates(&self, alloc: Global, store: &Store) -> Result<Items, NoMemory> {
         live_clause_ids(alloc, store)
@@ -125,13 +129,14 @@ impl<'a> Turn for Blocking<'a> {
             return Ok(Turned::Idle);
         }
         let clause = store.clause(id);
-        let found = blocking_literal(store, self.seen, id, clause, &mut self.hand)?;
+        let found = blocking_literal(store, self.seen, &self.kept, id, clause, &mut self.hand)?;
         let Some(lit) = found else {
             return Ok(Turned::Idle);
         };
         find_near(store, &self.hand, &mut self.near)?;
         queue_again(&self.near, again)?;
         drop_clause(alloc, store, &self.hand, id, lit)?;
+        self.kept.lose(self.hand.literals());
         Ok(Turned::Changed)
     }
 }
@@ -164,19 +169,20 @@ fn drop_clause(
 fn blocking_literal(
     store: &Store,
     seen: &Seen,
+    kept: &Kept,
     id: ClauseId,
     clause: &[Lit],
     hand: &mut LiteralSet,
 ) -> Result<Option<Lit>, NoMemory>
     requires within { All (IsUpTo store.now.vars) clause.now }
     requires live { clause_of store.now.slots id ≡ Some clause.now }
-    requires rested { IsRested blocking.IsIdle seen.now store.now }
+    requires rested { IsRestedBy blocking.IsIdle seen.now kept.now store.now }
     ensures lit { IfOk result (λ found. found ≡ find (blocks store.now clause.now) clause.now) }
     ensures hand { IfOk result (λ found. IfSome found (λ lit. hand.new ≡ clause.now)) }
 {
     let mut is_held = false;
     for lit in clause {
-        if !needs_look(store, seen, id, *lit) {
+        if !needs_look(store, seen, kept, id, *lit) {
             continue;
         }
         hold_once(hand, clause, is_held)?;
@@ -199,23 +205,18 @@ fn hold_once(hand: &mut LiteralSet, clause: &[Lit], is_held: bool) -> Result<(),
     hand.hold(clause)
 }
 
-/// Whether the clause of the id could be blocked on the literal, for all that the weights and what is remembered tell.
-fn needs_look(store: &Store, seen: &Seen, id: ClauseId, lit: Lit) -> bool
+/// Whether the clause of the id could be blocked on the literal, for all that the weights and what is remembered tell: not where
+/// the clause was there when none was blocked, and no clause with the negation of the literal has gone since.
+fn needs_look(store: &Store, seen: &Seen, kept: &Kept, id: ClauseId, lit: Lit) -> bool
     requires within { IsUpTo store.now.vars lit }
-    requires rested { IsRested blocking.IsIdle seen.now store.now }
+    requires rested { IsRestedBy blocking.IsIdle seen.now kept.now store.now }
     ensures free { result ≡ true → weight_in store.now.weights lit ≡ 0 }
     ensures idle { result ≡ false → (c : List Literal) → clause_of store.now.slots id ≡ Some c → Contains c lit → blocks store.now c lit ≡ false }
 {
-    store.weight(lit) == 0 && !rests(store, seen, id, lit)
-}
-
-/// Whether the clause of the id was there when no clause was blocked, and none with the negation of the literal has gone since.
-fn rests(store: &Store, seen: &Seen, id: ClauseId, lit: Lit) -> bool
-    requires within { IsUpTo store.now.vars lit }
-    requires rested { IsRested blocking.IsIdle seen.now store.now }
-    ensures { result ≡ true → (c : List Literal) → clause_of store.now.slots id ≡ Some c → Contains c lit → blocks store.now c lit ≡ false }
-{
-    id < seen.mark && seen.has_kept(store, lit.negated())
+    if id < seen.mark && kept.has(lit.negated()) {
+        return false;
+    }
+    store.weight(lit) == 0
 }
 
 /// Whether each clause with the negation of the literal clashes with the clause in hand on another variable.

@@ -1,12 +1,15 @@
-use Rattle.std.proofs.Common.{◌≡◌, refl, sym, ◌∙◌}
+use Rattle.std.proofs.Common.{◌≡◌, List, ap, not, refl, sym, ◌∙◌}
+use Rattle.std.specs.Prelude.{◌&&◌}
+use Rattle.mp_logic.specs.Literal.{Literal}
+use Rattle.mp_clauses.specs.Places.{has}
+use Rattle.mp_clauses.specs.Tables.{marked}
 use Rattle.mp_store.proofs.Clashes.{find-some}
 use Rattle.mp_turns.proofs.Pacing.{run-itself}
 use Rattle.mp_store.proofs.KeptFixing.{live-at}
-use Rattle.mp_resting.proofs.Rested.{rested-run}
-use Rattle.t_blocked.specs.BlockedClauses.{blocked_clauses, blocking}
+use Rattle.t_blocked.specs.BlockedClauses.{blocking}
 use Rattle.t_blocked.specs.Dropping.{blocks}
 use Rattle.t_blocked.proofs.Dropped.{untouched-run, untouched-stays, blocking-sound, live-within, unblocked-idle, dropped-by, dropped-run, dropped-stays, dropped-turned}
-use Rattle.t_blocked.proofs.Passed.{held-found}
+use Rattle.t_blocked.proofs.Passed.{held-found, dropped-rested}
 use Rattle.t_blocked.proofs.elimination.BlockingTurn.turn.Goals as goal
 
 pub returns-then-not-live-clause-run : goal.returns-then-not-live-clause-run
@@ -90,4 +93,4 @@ pub returns-clause-fits : goal.returns-clause-fits
 returns-clause-fits c n =
     let w = held-found c.args.store.now c.args.item c.clause-clause.result.now c.blocking_literal.new.hand c.in_ok-found.found c.in-Some.lit c.clause-clause.ensures c.in_ok-found.ensures.lit c.in_ok-found.ensures.hand c.in-Some.is in
     let dropped = dropped-by c.args.item c.args.store.now c.drop_clause.new.store c.blocking_literal.new.hand c.in-Some.lit c.find_near.new.near.items w.live w.found c.in_ok-drop_clause.ensures.ok c.in_ok-find_near.ensures in
-    rested-run blocking.IsIdle blocked_clauses.LeavesAlone c.args.self.now.seen.now c.args.store.now c.drop_clause.new.store c.requires.fits (dropped-run c.args.item c.args.store.now c.drop_clause.new.store c.find_near.new.near.items c.vars.ensures.sound dropped)
+    dropped-rested c.args.self.now.seen.now c.args.self.now.kept c.lose.new.self c.args.item c.args.store.now c.drop_clause.new.store c.find_near.new.near.items c.blocking_literal.new.hand c.vars.ensures.sound dropped w.live c.requires.fits (λ p. c.lose.ensures p ∙ ap (λ (xs : List Literal). marked c.args.self.now.kept p && not (has p xs)) c.literals.ensures)
