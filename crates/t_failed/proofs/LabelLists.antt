@@ -109,18 +109,12 @@ map-has f (y ∷ xs) x i =
 pub cost-listed : (ps : List Cost) (p : Cost) → Contains ps p → Contains (map (λ (p : Cost). place_of p.lit) ps) (place_of p.lit)
 cost-listed ps p i = map-has (λ (q : Cost). place_of q.lit) ps p i
 
--- the list has exactly the literals with a weight
+-- the list has each literal with a weight
 pub label-has : (h : Held) (ls : List Literal) (l : Literal) → AreLabels h ls → weight_in h.weights l ≢ 0 → Contains ls l
 label-has h ls l a n =
     let there : Contains (map place_of ls) (place_of l) = subst (λ xs. Contains xs (place_of l)) (sym a) (cost-listed (costs_of h.weights) (record { lit = l; weight = weight_in h.weights l }) (weight-cost h.weights l n)) in
     let w = Contains-map place_of ls (place_of l) there in
     subst (Contains ls) (sym (same-place l w.0 w.2)) w.1
-
-pub label-weighs : (h : Held) (ls : List Literal) (l : Literal) → AreLabels h ls → Contains ls l → weight_in h.weights l ≢ 0
-label-weighs h ls l a i =
-    let there : Contains (label_places (labelled_of h)) (place_of l) = subst (λ xs. Contains xs (place_of l)) a (map-has place_of ls l i) in
-    let w = Contains-map (λ (q : Cost). place_of q.lit) (costs_of h.weights) (place_of l) there in
-    subst (λ k. weight_in h.weights k ≢ 0) (sym (same-place l w.0.lit w.2)) (cost-some h.weights w.0 w.1)
 
 -- the labels but one
 pub others-few : (item : ℕ) (ls : List Literal) → length (places_beside item ls) ≤ length ls

@@ -9,3 +9,4 @@ pub mod PairTurns
 pub mod Searching
 pub mod Visits
 pub mod Taken
+pub mod UnitSets

@@ -62,6 +62,9 @@ pair-second b l =
       | inr e ↦ subst (λ xs. Contains xs l) (sym e) (Contains-first l (b ∷ []))
     ]
 
+pub pair-length : (b l : Literal) → length (pair_clause b l) ≡ 2
+pair-length b l = elim (nat_lt b.variable l.variable) as (λ t. length (cond t (b ∷ (l ∷ [])) (l ∷ (b ∷ []))) ≡ 2) [ true ↦ refl | false ↦ refl ]
+
 two-rise : (a b : Literal) → 1 ≤ a.variable → a.variable < b.variable → rises 0 (a ∷ (b ∷ [])) ≡ true
 two-rise a b p q = and_from (nat_lt 0 a.variable) (nat_lt a.variable b.variable && true) (lt-ltb 0 a.variable p) (and_from (nat_lt a.variable b.variable) true (lt-ltb a.variable b.variable q) refl)
 

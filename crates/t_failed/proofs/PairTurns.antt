@@ -28,10 +28,10 @@ use Rattle.mp_turns.specs.Turned.{IsTurn}
 use Rattle.mp_turns.specs.declared.turn.Turned.TheVariants.{Changed}
 use Rattle.mp_turns.proofs.OwnIdle.{own-idle}
 use Rattle.t_failed.specs.Pairs.{label_places, AddsPairs, implied_pairs, pair_probing}
-use Rattle.t_failed.specs.Partners.{IsPartner, AreLabels, AreFound, pair_clause, places_beside}
+use Rattle.t_failed.specs.Partners.{IsPartner, AreLabels, AreUnits, AreFound, pair_clause, places_beside}
 use Rattle.t_failed.specs.Propagating.{IsRoot, IsRootBelow, IsMentioned}
 use Rattle.t_failed.proofs.LabelLists.{labels-once, cost-listed, cost-some, label-within, others-few, others-has}
-use Rattle.t_failed.proofs.PairClauses.{pairs_of, pair-second, pairs-added, AreAdded, ArePaired, pairs-run, label-apart, covered-stay, pair-covered, pairs-lower, pairs-smaller}
+use Rattle.t_failed.proofs.PairClauses.{pairs_of, pair-second, pair-length, pairs-added, AreAdded, ArePaired, pairs-run, label-apart, covered-stay, pair-covered, pairs-lower, pairs-smaller}
 use Rattle.t_failed.proofs.Roots.{root-more}
 
 adds-itself : (s : State) → AddsPairs s s []
@@ -159,6 +159,15 @@ pairs-mentioned h u b ls p a m l i =
 
 pub pairs-labels : (h u : Held) (b : Literal) (ls labels : List Literal) → AreAdded h u b ls → AreLabels h labels → AreLabels u labels
 pairs-labels h u b ls labels a e = e ∙ sym (ap (λ (ps : List Cost). map (λ (c : Cost). place_of c.lit) ps) a.costs)
+
+pub pairs-units : (h u : Held) (b : Literal) (ls units : List Literal) → AreAdded h u b ls → AreUnits h units → AreUnits u units
+pairs-units h u b ls units a s = record {
+  some = λ l i. a.stay (l ∷ []) (s.some l i);
+  all = λ l i. elim (a.only (l ∷ []) i) [
+    | inl old ↦ s.all l old
+    | inr new ↦ absurd (let two : 1 ≡ 2 = ap (λ (xs : List Literal). length xs) new.2 ∙ pair-length b new.0 in omega (arith, two))
+  ];
+}
 
 -- whether a list has a literal
 pub none-or-some : (ls : List Literal) (b : Bool) → b ≡ (length ls == 0) → MatchBool b (ls ≡ []) ((l : Literal) × Contains ls l)

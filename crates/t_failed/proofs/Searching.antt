@@ -7,7 +7,7 @@ use Rattle.std.proofs.lemmas.List.{take_all}
 use Rattle.std.proofs.lemmas.List.Elements.{All-contains, Contains-append_left, Contains-append_right, Contains-append_cases, Contains-push, Contains-push_cases}
 use Rattle.std.proofs.lemmas.List.Sorted.{Contains-permutation, IsPermutation-sym}
 use Rattle.std.proofs.Math.Seq.{take-suc}
-use Rattle.mp_logic.specs.Literal.{Literal, negation, IsUpTo}
+use Rattle.mp_logic.specs.Literal.{Literal, negation}
 use Rattle.mp_logic.specs.Normal.{rises}
 use Rattle.mp_logic.specs.Truth.{literal_value}
 use Rattle.mp_logic.proofs.Literals.{cases_contains, negation_true}
@@ -24,9 +24,9 @@ use Rattle.mp_store.specs.Soundness.{IsStore}
 use Rattle.mp_store.specs.Measures.{is_covered, occurs}
 use Rattle.mp_store.proofs.KeptFixing.{live-at, live-id}
 use Rattle.mp_store.proofs.Runs.{none-empty}
-use Rattle.t_failed.specs.Propagating.{AreUpTo, IsMentioned, IsProbed, IsFailed}
+use Rattle.t_failed.specs.Propagating.{IsMentioned, IsProbed, IsFailed}
 use Rattle.t_failed.specs.Partners.{IsPartner, IsBeside, ArePartnersOf, AreLabels, AreFound}
-use Rattle.t_failed.proofs.LabelLists.{label-has, label-weighs, label-within}
+use Rattle.t_failed.proofs.LabelLists.{label-has}
 use Rattle.t_failed.proofs.PairClauses.{covered-by, covered-found}
 
 -- one more of a list was looked at
@@ -58,7 +58,7 @@ at-id slots l ids id e m = let w = (e.each id).0 m in record { clause = w.0; is 
 pub id-of : (slots : List (Option (List Literal))) (l : Literal) (ids : List ℕ) (c : List Literal) → AreExactOccurrences l slots ids → Contains (live_clauses slots) c → Contains c l → (id : ℕ) × Contains ids id × (clause_of slots id ≡ Some c)
 id-of slots l ids c e m i = let w = live-id slots c m in (w.0, (e.each w.0).1 (c, w.1, i), w.1)
 
-some-same : (c d : List Literal) → Some c ≡ Some d → c ≡ d
+pub some-same : (c d : List Literal) → Some c ≡ Some d → c ≡ d
 some-same c d e = cc
 
 pub read-clause : (slots : List (Option (List Literal))) (l : Literal) (id : ℕ) (c : List Literal) → (w : AtId slots l id) → Some c ≡ clause_of slots id → c ≡ w.clause
@@ -107,36 +107,6 @@ besides-done slots l ids i lits set x h e b k =
       some = λ m. b.some k (subst (λ xs. Contains xs k) e m);
       all = λ c m o short j. let w = id-of slots l ids c x m o in subst (λ xs. Contains xs k) (sym e) (b.all w.0 c k (subst (λ ys. Contains ys w.0) (sym whole) w.1) w.2 short j);
     }
-
--- unit clauses
-one-long : (c : List Literal) (l : Literal) → length c ≡ 1 → Contains c l → c ≡ l ∷ []
-one-long [] l h i = absurd (Contains-none l i)
-one-long (k ∷ []) l h i = ap (λ x. x ∷ []) (sym (Contains-one k l i))
-one-long (k ∷ (j ∷ c)) l h i = absurd (omega arith)
-
-pub unit-found : (slots : List (Option (List Literal))) (l : Literal) (ids : List ℕ) (i id : ℕ) (c : List Literal) → AreExactOccurrences l slots ids → i < length ids → id ≡ get_or ids i 0 → Some c ≡ clause_of slots id → length c ≡ 1 → Contains (live_clauses slots) (l ∷ [])
-unit-found slots l ids i id c x h e r one =
-    let w = at-id slots l ids id x (i, h, sym (e ∙ get_or-any ids i 0 id h)) in
-    let own = read-clause slots l id c w r in
-    subst (Contains (live_clauses slots)) (one-long w.clause l (sym (ap (λ (xs : List Literal). length xs) own) ∙ one) w.has) w.live
-
-abbrev pub HasNoUnit : List (Option (List Literal)) → Literal → List ℕ → Type 0
-HasNoUnit slots l ids = (id : ℕ) → Contains ids id → clause_of slots id ≡ Some (l ∷ []) → ⊥
-
-pub unit-none : (slots : List (Option (List Literal))) (l : Literal) (ids : List ℕ) (i id : ℕ) (c : List Literal) → i < length ids → id ≡ get_or ids i 0 → Some c ≡ clause_of slots id → length c ≢ 1 → HasNoUnit slots l (take i ids) → HasNoUnit slots l (take (i + 1) ids)
-unit-none slots l ids i id c h e r n b j m f =
-    elim (take-more ids i id j h (e ∙ get_or-any ids i 0 id h) m) [
-      | inl old ↦ b j old f
-      | inr same ↦ n (ap (λ (xs : List Literal). length xs) (some-same c (l ∷ []) (r ∙ (ap (clause_of slots) (sym same) ∙ f))))
-    ]
-
-pub unit-start : (slots : List (Option (List Literal))) (l : Literal) → HasNoUnit slots l []
-unit-start slots l id i f = Contains-none id i
-
-pub unit-done : (slots : List (Option (List Literal))) (l : Literal) (ids : List ℕ) (i : ℕ) → AreExactOccurrences l slots ids → length ids ≤ i → HasNoUnit slots l (take i ids) → Contains (live_clauses slots) (l ∷ []) → ⊥
-unit-done slots l ids i x h b m =
-    let w = id-of slots l ids (l ∷ []) x m (Contains-first l []) in
-    b w.0 (subst (λ ys. Contains ys w.0) (sym (take_all i ids h)) w.1) w.2
 
 -- clauses that cover a pair
 above : (n : ℕ) (c : List Literal) (k : Literal) → rises n c ≡ true → Contains c k → n < k.variable
@@ -306,12 +276,6 @@ alone-found h b partners i e =
       implied = λ l m. absurd (none l m);
       all = inr (λ l q. absurd (partner-alone h b l i q));
     }
-
-pub labels-within : (h : Held) (labels : List Literal) → IsStore h → AreLabels h labels → AreUpTo h.vars labels
-labels-within h labels s a l i = label-within h l s (label-weighs h labels l a i)
-
-pub known-up : (vars : ℕ) (lits : List Literal) (i : ℕ) (l : Literal) → i < length lits → l ≡ get_or lits i l → AreUpTo vars lits → IsUpTo vars l
-known-up vars lits i l h e u = u l (i, h, sym e)
 
 -- the literal whose negation is probed occurs if it was made true
 pub negated-named : (cs : List (List Literal)) (p : List Literal) (n : Literal) → IsMentioned cs p → Contains p (negation n) → occurs n.variable cs ≡ true

@@ -91,7 +91,7 @@ below-more vars slots id start old new b f g s t before j c less r =
           settled-less new (length start) (length old) c longer (settles-true (live_clauses slots) slots id old new b s t c (sym (ap (clause_of slots) same) ∙ r))
     ]
 
-none-some : (o : Option (List Literal)) (c : List Literal) → is_some o ≡ false → o ≡ Some c → ⊥
+pub none-some : (o : Option (List Literal)) (c : List Literal) → is_some o ≡ false → o ≡ Some c → ⊥
 none-some None c f e = cc
 none-some (Some d) c f e = true≢false f
 

@@ -31,6 +31,11 @@ pub record IsBeside (slots : List (Option (List Literal))) (l : Literal) (beside
 abbrev pub AreLabels : Held → List Literal → Type 0
 AreLabels h ls = map place_of ls ≡ label_places (labelled_of h)
 
+-- the set has the literals of the unit clauses
+pub record AreUnits (h : Held) (units : List Literal) : Type 0 where
+  pub some : (l : Literal) → Contains units l → Contains (live_clauses h.slots) (l ∷ [])
+  pub all : (l : Literal) → Contains (live_clauses h.slots) (l ∷ []) → Contains units l
+
 -- each model makes b or the other literal true
 abbrev pub IsImpliedPair : List (List Literal) → Literal → Literal → Type 0
 IsImpliedPair cs b l = (a : List Bool) → IsSatisfied a cs → (literal_value a b ≡ true) ⊎ (literal_value a l ≡ true)

@@ -16,6 +16,7 @@ mod partners;
 mod propagation;
 mod root;
 mod trail;
+mod units;
 
 pub use failing::failed;
 pub use pairing::pairs;

@@ -4,8 +4,8 @@
 //! soft clauses). Models and costs stay as they are, and there is no repair.
 //!
 //! A turn takes one cost literal and costs what the propagation visits, with the clauses of the literal; pairs that a clause
-//! covers already are told by marks. After a change each other cost literal waits again, and what all clauses force is
-//! propagated further from the new clauses alone.
+//! covers already are told by marks, those of the unit clauses made once a call, since no turn adds or takes one. After a
+//! change each other cost literal waits again, and what all clauses force is propagated further from the new clauses alone.
 ghost use Rattle.std.specs.Prelude.{◌≡◌, ◌≢◌, [], IfOk, OnOk, OnErr, MatchBool, Contains, false, map};
 ghost use Rattle.mp_logic.specs.Literal.{IsUpTo};
 ghost use Rattle.mp_store.specs.Held.{IsUntouched};
@@ -18,8 +18,9 @@ ghost use Rattle.t_failed.specs.Partners.{pair_clause};
 use crate::labels::{label_at, labels, places, put_others};
 use crate::partners::{Search, find_partners};
 use crate::root::{Root, follow};
+use crate::units::units_of;
 use mp_logic::{Clause, Clauses, ListOf, Lit, NoMemory};
-use mp_store::{Ran, Store};
+use mp_store::{LiteralSet, Ran, Store};
 use mp_turns::{Items, Turn, Turned, replace, run_turns};
 use std::alloc::Global;
 
@@ -34,16 +35,18 @@ pub fn pairs(alloc: Global, store: &mut Store, budget: Option<u64>) -> Result<Ra
     let mut turn = Pairing {
         root: Root::new(alloc, store)?,
         labels: labels(alloc, store)?,
+        units: units_of(alloc, store)?,
         search: Search::new(alloc),
     };
     run_turns(alloc, store, &mut turn, budget)
 }
 
-/// What all clauses force, the cost literals, and the partners of one.
+/// What all clauses force, the cost literals, the literals of the unit clauses, and the partners of one cost literal.
 #[derive(Drop)]
 struct Pairing {
     root: Root,
     labels: Vec<Lit>,
+    units: LiteralSet,
     search: Search,
 }
 
@@ -51,11 +54,11 @@ impl Turn for Pairing {
     ghost use Rattle.mp_clauses.specs.Slots.{live_clauses};
     ghost use Rattle.t_failed.specs.Pairs.{pair_probing};
     ghost use Rattle.t_failed.specs.Propagating.{IsRoot, IsMentioned};
-    ghost use Rattle.t_failed.specs.Partners.{AreLabels};
+    ghost use Rattle.t_failed.specs.Partners.{AreLabels, AreUnits};
 
     ghost turning = { pair_probing };
 
-    ghost fits = { λ t h. IsRoot h t.root.trail t.root.refuted × IsMentioned (live_clauses h.slots) t.root.trail × AreLabels h t.labels.items };
+    ghost fits = { λ t h. IsRoot h t.root.trail t.root.refuted × IsMentioned (live_clauses h.slots) t.root.trail × AreLabels h t.labels.items × AreUnits h t.units };
 
     fn candidates(&self, alloc: Global, store: &Store) -> Result<Items, NoMemory> {
         places(alloc, &labels(alloc, store)?)
@@ -73,7 +76,14 @@ impl Turn for Pairing {
         let Some(lit) = label_at(store, item) else {
             return Ok(Turned::Idle);
         };
-        find_partners(store, &mut self.root, &self.labels, lit, &mut self.search)?;
+        find_partners(
+            store,
+            &mut self.root,
+            &self.labels,
+            &self.units,
+            lit,
+            &mut self.search,
+        )?;
         if have_none(&self.search.partners) {
             return Ok(Turned::Idle);
         }

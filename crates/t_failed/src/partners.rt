@@ -3,8 +3,8 @@ ghost use Rattle.std.specs.Prelude.{◌≡◌, ◌==◌, ◌∷◌, [], OnOk, Ma
 ghost use Rattle.mp_logic.specs.Literal.{IsUpTo, negation};
 ghost use Rattle.mp_clauses.specs.Places.{place_of};
 ghost use Rattle.mp_clauses.specs.Slots.{live_clauses};
-ghost use Rattle.t_failed.specs.Propagating.{IsRoot, IsMentioned, IsGrown, AreUpTo};
-ghost use Rattle.t_failed.specs.Partners.{AreLabels, AreFound, IsPartner, IsBeside, ArePartnersOf};
+ghost use Rattle.t_failed.specs.Propagating.{IsRoot, IsMentioned, IsGrown};
+ghost use Rattle.t_failed.specs.Partners.{AreLabels, AreUnits, AreFound, IsPartner, IsBeside, ArePartnersOf};
 
 use crate::root::{Root, probe};
 use mp_logic::{Lit, NoMemory};
@@ -33,24 +33,11 @@ fn hold_beside(
     Ok(())
 }
 
-/// Whether the literal is a clause.
-fn is_unit(store: &Store, lit: Lit) -> bool
-    requires { IsUpTo store.now.vars lit }
-    ensures { MatchBool result (Contains (live_clauses store.now.slots) (lit ∷ [])) (Contains (live_clauses store.now.slots) (lit ∷ []) → ⊥) }
-{
-    for id in store.occurrences(lit) {
-        if store.clause(*id).len() == 1 {
-            return true;
-        }
-    }
-    false
-}
-
 /// Whether the other literal is a partner of the one whose short clauses these are.
-fn is_partner(store: &Store, beside: &LiteralSet, lit: Lit, other: Lit) -> bool
+fn is_partner(store: &Store, beside: &LiteralSet, units: &LiteralSet, lit: Lit, other: Lit) -> bool
     requires beside { (k : _) → IsBeside store.now.slots lit beside.now k }
+    requires units { AreUnits store.now units.now }
     requires alone { Contains (live_clauses store.now.slots) (lit ∷ []) → ⊥ }
-    requires other { IsUpTo store.now.vars other }
     requires unrefuted { store.now.refuted ≡ false }
     ensures { MatchBool result (IsPartner store.now lit other) (IsPartner store.now lit other → ⊥) }
 {
@@ -65,7 +52,7 @@ fn is_partner(store: &Store, beside: &LiteralSet, lit: Lit, other: Lit) -> bool
     if beside.has(other) {
         return false;
     }
-    if is_unit(store, other) {
+    if units.has(other) {
         return false;
     }
     true
@@ -81,19 +68,20 @@ fn are_same(first: Lit, second: Lit) -> bool
 fn put_partners(
     store: &Store,
     beside: &LiteralSet,
+    units: &LiteralSet,
     lit: Lit,
     lits: &[Lit],
     partners: &mut Vec<Lit>,
 ) -> Result<(), NoMemory>
     requires beside { (k : _) → IsBeside store.now.slots lit beside.now k }
+    requires units { AreUnits store.now units.now }
     requires alone { Contains (live_clauses store.now.slots) (lit ∷ []) → ⊥ }
-    requires lits { AreUpTo store.now.vars lits.now }
     requires unrefuted { store.now.refuted ≡ false }
     requires empty { partners.old.items ≡ [] }
     ensures { OnOk result (ArePartnersOf store.now lit lits.now partners.new.items) }
 {
     for other in lits {
-        if !is_partner(store, beside, lit, *other) {
+        if !is_partner(store, beside, units, lit, *other) {
             continue;
         }
         partners.push(*other)?;
@@ -125,6 +113,7 @@ fn put_found(
     store: &Store,
     root: &mut Root,
     labels: &[Lit],
+    units: &LiteralSet,
     lit: Lit,
     beside: &LiteralSet,
     partners: &mut Vec<Lit>,
@@ -132,6 +121,7 @@ fn put_found(
     requires root { IsRoot store.now root.old.trail root.old.refuted }
     requires mentioned { IsMentioned (live_clauses store.now.slots) root.old.trail }
     requires labels { AreLabels store.now labels.now }
+    requires units { AreUnits store.now units.now }
     requires lit { IsUpTo store.now.vars lit }
     requires beside { (k : _) → IsBeside store.now.slots lit beside.now k }
     requires alone { Contains (live_clauses store.now.slots) (lit ∷ []) → ⊥ }
@@ -141,13 +131,11 @@ fn put_found(
     ensures refuted { root.new.refuted ≡ root.old.refuted }
     ensures found { OnOk result (AreFound store.now lit partners.new.items) }
 {
-    // what holds of each store puts labels within its variables
-    let _ = store.vars();
     if probe(store, root, lit.negated())? {
-        put_partners(store, beside, lit, root.trail.literals(), partners)?;
+        put_partners(store, beside, units, lit, root.trail.literals(), partners)?;
         return Ok(());
     }
-    put_partners(store, beside, lit, labels, partners)?;
+    put_partners(store, beside, units, lit, labels, partners)?;
     Ok(())
 }
 
@@ -156,12 +144,14 @@ pub fn find_partners(
     store: &Store,
     root: &mut Root,
     labels: &[Lit],
+    units: &LiteralSet,
     lit: Lit,
     search: &mut Search,
 ) -> Result<(), NoMemory>
     requires root { IsRoot store.now root.old.trail root.old.refuted }
     requires mentioned { IsMentioned (live_clauses store.now.slots) root.old.trail }
     requires labels { AreLabels store.now labels.now }
+    requires units { AreUnits store.now units.now }
     requires lit { IsUpTo store.now.vars lit }
     requires unrefuted { store.now.refuted ≡ false }
     ensures trail { OnOk result (root.new.trail ≡ root.old.trail) }
@@ -169,7 +159,7 @@ pub fn find_partners(
     ensures found { OnOk result (AreFound store.now lit search.new.partners.items) }
 {
     search.partners.clear();
-    if is_unit(store, lit) {
+    if units.has(lit) {
         return Ok(());
     }
     hold_beside(store, lit, &mut search.short, &mut search.beside)?;
@@ -178,6 +168,7 @@ pub fn find_partners(
         store,
         root,
         labels,
+        units,
         lit,
         &search.beside,
         &mut search.partners,

@@ -10,3 +10,6 @@ returns-in_err-new-clause-run c = untouched-run c.args.store.now c.args.store.no
 
 pub returns-in_err-labels-clause-run : goal.returns-in_err-labels-clause-run
 returns-in_err-labels-clause-run c = untouched-run c.args.store.now c.args.store.now refl
+
+pub returns-in_err-units_of-clause-run : goal.returns-in_err-units_of-clause-run
+returns-in_err-units_of-clause-run c = untouched-run c.args.store.now c.args.store.now refl

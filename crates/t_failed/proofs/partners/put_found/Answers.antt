@@ -1,6 +1,6 @@
 use Rattle.mp_clauses.specs.Slots.{live_clauses}
-use Rattle.t_failed.proofs.FailedTurns.{negated-up, probe-true}
-use Rattle.t_failed.proofs.Searching.{labels-within, derived-by, failed-by, negated-named}
+use Rattle.t_failed.proofs.FailedTurns.{negated-up}
+use Rattle.t_failed.proofs.Searching.{derived-by, failed-by, negated-named}
 use Rattle.t_failed.proofs.partners.put_found.Goals as goal
 
 pub probe-requires-clause-lit : goal.probe-requires-clause-lit
@@ -8,12 +8,6 @@ probe-requires-clause-lit c = negated-up c.args.store.now.vars c.args.lit c.nega
 
 pub probe-requires-clause-occurs : goal.probe-requires-clause-occurs
 probe-requires-clause-occurs c = negated-named (live_clauses c.args.store.now.slots) _ c.negated.result c.requires.mentioned
-
-pub put_partners-requires-clause-lits : goal.put_partners-requires-clause-lits
-put_partners-requires-clause-lits c = rw c.literals.ensures.literals (probe-true c.args.store.now _ _ c.negated.result _ c.if-branch.true c.in_ok-probe.ensures.answer).within
-
-pub put_partners-requires-2-clause-lits : goal.put_partners-requires-2-clause-lits
-put_partners-requires-2-clause-lits c = labels-within c.args.store.now c.args.labels.now c.vars.ensures.sound c.requires.labels
 
 pub returns-then-branch-clause-found : goal.returns-then-branch-clause-found
 returns-then-branch-clause-found c = derived-by c.args.store.now c.args.lit c.negated.result _ _ c.literals.result.now _ _ c.negated.ensures c.if-branch.true c.in_ok-probe.ensures.answer c.requires.mentioned c.literals.ensures.literals c.in_ok-put_partners.ensures

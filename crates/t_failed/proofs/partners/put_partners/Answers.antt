@@ -1,11 +1,8 @@
-use Rattle.t_failed.proofs.Searching.{partners-none, partners-more, partners-same, partners-sorted, known-up}
+use Rattle.t_failed.proofs.Searching.{partners-none, partners-more, partners-same, partners-sorted}
 use Rattle.t_failed.proofs.partners.put_partners.Goals as goal
 
 pub loop-other-init : goal.loop-other-init
 loop-other-init c = partners-none c.args.store.now c.args.lit _ c.requires.empty
-
-pub is_partner-requires-clause-other : goal.is_partner-requires-clause-other
-is_partner-requires-clause-other c = known-up c.args.store.now.vars c.args.lits.now c.loop-other.other-index c.other-item.result c.loop-other-test.true c.other-item.is c.requires.lits
 
 pub loop-other-preserved-then-not-is_partner : goal.loop-other-preserved-then-not-is_partner
 loop-other-preserved-then-not-is_partner c = partners-same c.args.store.now c.args.lit c.args.lits.now c.loop-other.other-index c.other-item.result _ c.loop-other-test.true c.other-item.is c.if-not-is_partner.ensures c.loop-other.invariant

@@ -1,7 +1,7 @@
 use Rattle.std.proofs.Common.{[], refl}
 use Rattle.mp_clauses.specs.Slots.{live_clauses}
 use Rattle.t_failed.proofs.PairClauses.{pairs-run}
-use Rattle.t_failed.proofs.PairTurns.{untouched-run, idle-none, idle-found, found-within, pairs-turned, pairs-root, pairs-mentioned, pairs-labels, is-none, has-some, label-up, kept-root, kept-mentioned, pairing, put-first}
+use Rattle.t_failed.proofs.PairTurns.{untouched-run, idle-none, idle-found, found-within, pairs-turned, pairs-root, pairs-mentioned, pairs-labels, pairs-units, is-none, has-some, label-up, kept-root, kept-mentioned, pairing, put-first}
 use Rattle.t_failed.proofs.pairing.PairingTurn.turn.Goals as goal
 
 pub returns-in_default-clause-run : goal.returns-in_default-clause-run
@@ -18,6 +18,9 @@ find_partners-requires-clause-mentioned c = c.requires.fits.1
 
 pub find_partners-requires-clause-labels : goal.find_partners-requires-clause-labels
 find_partners-requires-clause-labels c = rw c.deref.ensures.value c.requires.fits.2
+
+pub find_partners-requires-clause-units : goal.find_partners-requires-clause-units
+find_partners-requires-clause-units c = c.requires.fits.3
 
 pub find_partners-requires-clause-lit : goal.find_partners-requires-clause-lit
 find_partners-requires-clause-lit c = label-up c.args.store.now c.in-Some.lit c.vars.ensures.sound c.in-Some.ensures.1
@@ -67,6 +70,7 @@ returns-clause-fits c = λ n.
       c.in_ok-follow.ensures.root,
       c.in_ok-follow.ensures.mentioned (pairs-mentioned c.args.store.now c.add_pairs.new.store c.in-Some.lit _ _ p.added (kept-mentioned (live_clauses c.args.store.now.slots) _ _ c.requires.fits.1 c.in_ok-find_partners.ensures.trail)),
       pairs-labels c.args.store.now c.add_pairs.new.store c.in-Some.lit _ _ p.added c.requires.fits.2,
+      pairs-units c.args.store.now c.add_pairs.new.store c.in-Some.lit _ _ p.added c.requires.fits.3,
     )
 
 pub returns-clause-turned : goal.returns-clause-turned
