@@ -36,7 +36,7 @@ pub fn mark_clause(used: &mut [bool], clause: &Clause)
     }
 }
 
-/// The variables that are marked, rising.
+/// The variables that are marked, rising; the one error is want of memory.
 pub fn marked(alloc: Global, used: &[bool]) -> Result<Names, NoMemory>
     requires { length used.now < 2 ^ 32 }
     ensures { IfOk result (λ made. made ≡ filter (value_of used.now) (range_with_len 1 (length used.now))) }
@@ -50,7 +50,8 @@ pub fn marked(alloc: Global, used: &[bool]) -> Result<Names, NoMemory>
     Ok(names)
 }
 
-/// The number of each name, from 1, at the name's place in a table with a place for each variable from 1.
+/// The number of each name, from 1, at the name's place in a table with a place for each variable from 1; the one error is want
+/// of memory.
 pub fn numbers_of(alloc: Global, vars: u32, names: &Names) -> Result<Vec<u32>, NoMemory>
     requires { IsTrue (names_rise 0 vars names.now) }
     ensures { IfOk result (λ made. IsNumbering names.now made.items) }
@@ -66,7 +67,8 @@ pub fn numbers_of(alloc: Global, vars: u32, names: &Names) -> Result<Vec<u32>, N
 
 /// The clauses under the numbers of their variables, in the order of clauses, repeats kept.
 ///
-/// They are made one for one and put in order where they stand, so that no table lies beside the two lists.
+/// They are made one for one and put in order where they stand, so that no table lies beside the two lists. The one error is
+/// want of memory.
 pub fn renumbered(alloc: Global, numbers: &[u32], clauses: &Clauses) -> Result<Clauses, NoMemory>
     requires { All (All (HasNumber numbers.now)) clauses.now }
     ensures moved { IfOk result (λ made. IsPermutation (map (map (by_number numbers.now)) clauses.now) made) }
@@ -80,7 +82,7 @@ pub fn renumbered(alloc: Global, numbers: &[u32], clauses: &Clauses) -> Result<C
     Ok(Clauses::from_vec(made))
 }
 
-/// The clause under the numbers of its variables, its literals in the order that they have.
+/// The clause under the numbers of its variables, its literals in the order that they have; the one error is want of memory.
 pub fn renumbered_clause(
     alloc: Global,
     numbers: &[u32],

@@ -25,7 +25,8 @@ impl Model for Kept {
 }
 
 impl Kept {
-    /// Marks those of the store's literals that have kept their clauses; no memory is taken where nothing is remembered.
+    /// Marks those of the store's literals that have kept their clauses; no memory is taken where nothing is remembered,
+    /// and the one error is want of it.
     pub fn of(alloc: Global, store: &Store, seen: &Seen) -> Result<Kept, NoMemory>
         ensures { IfOk result (λ kept. AreKeptSince kept seen.now store.now) }
     {

@@ -4,3 +4,4 @@ pub mod Flipping
 pub mod Strengthened
 pub mod Parts
 pub mod Remembering
+pub mod Filtered

@@ -2,3 +2,4 @@ pub mod Containment
 pub mod Subsumption
 pub mod Strengthening
 pub mod Shortening
+pub mod Filtering

@@ -33,9 +33,12 @@ pub fn holders(
 {
     // what holds of each store puts its clauses in order
     let _ = store.vars();
+    let mut found = ListOf::new(alloc);
+    if store.next_id() <= least {
+        return Ok(found);
+    }
     let rare = rarest(store, lits, least);
     let ids = occurrences_from(store, rare, least);
-    let mut found = ListOf::new(alloc);
     if ids.is_empty() {
         return Ok(found);
     }

@@ -8,6 +8,7 @@
 #![tactic(auto)]
 
 mod containment;
+mod filter;
 mod resting;
 mod strengthening;
 mod subsumption;

@@ -4,7 +4,8 @@
 //!
 //! A turn takes a clause and goes through its literals in order; with each it shortens all clauses that it can, in one
 //! rewrite, which take the next ids in order of the ids that they had. For each literal it costs the clauses of one of the
-//! literals looked for, that of the fewest. A clause that strengthened none before strengthens none when others get shorter,
+//! literals looked for, that of the fewest, or a look-up for each of them where a filter, made once a run, tells that none was
+//! there when the run began. A clause that strengthened none before strengthens none when others get shorter,
 //! but the shortened ones may: they are queued again.
 ghost use Rattle.std.specs.Prelude.{◌≡◌, ◌⊎◌, ◌<◌, ◌≤◌, [], ℕ, All, IfOk, OnOk, IsTrue, Some, false, true, length};
 ghost use Rattle.mp_logic.specs.Literal.{negation};
@@ -15,10 +16,12 @@ ghost use Rattle.mp_store.specs.Rewriting.{after};
 ghost use Rattle.mp_store.specs.Techniques.{IsRun, IsAnswer};
 ghost use Rattle.mp_turns.specs.Clauses.{replacing};
 ghost use Rattle.mp_resting.specs.Resting.{IsRested};
+ghost use Rattle.t_subsume.specs.Filtering.{Tells};
 ghost use Rattle.t_subsume.specs.Strengthening.{self_subsumption, strengthening};
 ghost use Rattle.t_subsume.specs.Shortening.{without_literal, shortened_by, lit_at, AreAgain, AreStrengthened, IsPart, IsUseless, StrengthensNoneBelow};
 
 use crate::containment::{holders, same};
+use crate::filter::Filter;
 use crate::resting::{least_for, remember};
 use mp_logic::{Clause, Clauses, ListOf, Lit, NoMemory};
 use mp_resting::Seen;
@@ -57,26 +60,30 @@ pub fn strengthen_again(
     let mut turn = Strengthening {
         lits: ListOf::new(alloc),
         mark: seen.mark,
+        filter: Filter::since(alloc, store, seen.mark)?,
     };
     let ran = run_turns(alloc, store, &mut turn, budget)?;
     remember(alloc, store, ran.ending, seen);
     Ok(ran)
 }
 
-/// The literals of the clause whose turn it is; those below the mark need not be held against each other.
+/// The literals of the clause whose turn it is; those below the mark need not be held against each other, and the filter tells
+/// of those that there were at first.
 #[derive(Drop)]
 struct Strengthening {
     lits: ListOf<Lit>,
     mark: ClauseId,
+    filter: Filter,
 }
 
 impl Turn for Strengthening {
     ghost use Rattle.t_subsume.specs.Strengthening.{strengthening};
+    ghost use Rattle.t_subsume.specs.Filtering.{Tells};
     ghost use Rattle.t_subsume.specs.Shortening.{NoneStrengthenedBelow};
 
     ghost turning = { strengthening };
 
-    ghost fits = { λ t h. NoneStrengthenedBelow t.mark h.slots };
+    ghost fits = { λ t h. NoneStrengthenedBelow t.mark h.slots × Tells t.filter h.slots };
 
     fn candidates(&self, alloc: Global, store: &Store) -> Result<Items, NoMemory> {
         live_clause_ids(alloc, store)
@@ -95,7 +102,7 @@ impl Turn for Strengthening {
         }
         fill(&mut self.lits, store.clause(id))?;
         let least = least_for(id, self.mark);
-        if !use_each(alloc, store, &mut self.lits, id, least, again)? {
+        if !use_each(alloc, store, &self.filter, &mut self.lits, id, least, again)? {
             return Ok(Turned::Idle);
         }
         Ok(Turned::Changed)
@@ -117,6 +124,7 @@ fn fill(lits: &mut ListOf<Lit>, clause: &[Lit]) -> Result<(), NoMemory>
 fn use_each(
     alloc: Global,
     store: &mut Store,
+    filter: &Filter,
     lits: &mut ListOf<Lit>,
     id: ClauseId,
     least: ClauseId,
@@ -125,6 +133,7 @@ fn use_each(
     requires unrefuted { store.old.refuted ≡ false }
     requires own { clause_of store.old.slots id ≡ Some lits.old }
     requires rested { StrengthensNoneBelow least store.old.slots lits.old }
+    requires tells { Tells filter.now store.old.slots }
     ensures run { IsRun self_subsumption.LeavesAlone store.old store.new }
     ensures part { IfOk result (λ changed. store.new.refuted ≡ false → IsPart id lits.old store.old store.new again.old again.new changed) }
     ensures useless { OnOk result (store.new.refuted ≡ false → (k : ℕ) → k < length lits.old → IsUseless store.new.slots lits.old (lit_at lits.old k)) }
@@ -134,7 +143,7 @@ fn use_each(
     for place in 0..lits.len() {
         // what holds of each store
         let _ = store.vars();
-        if use_one(alloc, store, lits, id, least, place, again)? {
+        if use_one(alloc, store, filter, lits, id, least, place, again)? {
             changed = true;
             if store.refuted() {
                 return Ok(changed);
@@ -148,6 +157,7 @@ fn use_each(
 fn use_one(
     alloc: Global,
     store: &mut Store,
+    filter: &Filter,
     lits: &mut ListOf<Lit>,
     id: ClauseId,
     least: ClauseId,
@@ -157,6 +167,7 @@ fn use_one(
     requires unrefuted { store.old.refuted ≡ false }
     requires own { clause_of store.old.slots id ≡ Some lits.old }
     requires rested { StrengthensNoneBelow least store.old.slots lits.old }
+    requires tells { Tells filter.now store.old.slots }
     requires place { place < length lits.old }
     ensures lits { lits.new ≡ lits.old }
     ensures run { IsRun self_subsumption.LeavesAlone store.old store.new }
@@ -166,7 +177,7 @@ fn use_one(
 {
     // what holds of each store makes the rewrite valid
     let _ = store.vars();
-    let gone = find_strengthened(alloc, store, lits, id, least, place)?;
+    let gone = find_strengthened(alloc, store, filter, lits, id, least, place)?;
     if gone.len() == 0 {
         return Ok(false);
     }
@@ -234,6 +245,7 @@ fn without(alloc: Global, clause: &[Lit], lit: Lit) -> Result<Clause, NoMemory>
 fn find_strengthened(
     alloc: Global,
     store: &Store,
+    filter: &Filter,
     lits: &mut ListOf<Lit>,
     id: ClauseId,
     least: ClauseId,
@@ -241,6 +253,7 @@ fn find_strengthened(
 ) -> Result<Ids, NoMemory>
     requires own { clause_of store.now.slots id ≡ Some lits.old }
     requires rested { StrengthensNoneBelow least store.now.slots lits.old }
+    requires tells { Tells filter.now store.now.slots }
     requires place { place < length lits.old }
     ensures lits { lits.new ≡ lits.old }
     ensures found { IfOk result (λ gone. AreStrengthened store.now id lits.old (lit_at lits.old place) gone) }
@@ -249,6 +262,7 @@ fn find_strengthened(
     let _ = store.vars();
     let lit = literal_of(lits, place);
     lits.set(place, lit.negated());
+    let least = filter.least_holder(store, lits.items(), id, false, least);
     let found = holders(alloc, store, lits.items(), id, least);
     lits.set(place, lit);
     let gone = found?;

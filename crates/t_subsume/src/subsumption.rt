@@ -2,14 +2,16 @@
 //! models stay, and no repair is needed.
 //!
 //! A turn takes a clause and drops all others that have its literals, in one rewrite; of equal clauses the one whose turn
-//! comes first stays. It costs the clauses of one of its literals, that of the fewest. A clause that subsumed none before
-//! subsumes none when others go, so nothing is queued again.
+//! comes first stays. It costs the clauses of one of its literals, that of the fewest, or a look-up for each literal where a
+//! filter, made once a run, tells that there is none. A clause that subsumed none before subsumes none when others go, so
+//! nothing is queued again.
 ghost use Rattle.std.specs.Prelude.{◌≡◌, IfOk, OnOk, false};
 ghost use Rattle.mp_store.specs.Techniques.{IsRun, IsAnswer, KeepsIds};
 ghost use Rattle.mp_resting.specs.Resting.{IsRested};
 ghost use Rattle.t_subsume.specs.Subsumption.{subsumption, subsuming};
 
 use crate::containment::holders;
+use crate::filter::Filter;
 use crate::resting::{least_for, remember};
 use mp_logic::{ListOf, NoMemory};
 use mp_resting::Seen;
@@ -31,7 +33,7 @@ pub fn subsume(alloc: Global, store: &mut Store, budget: Option<u64>) -> Result<
 
 /// The same, where `seen` remembers the ids of an earlier store in which no clause had all literals of another. A clause of
 /// those ids is held against newer ones alone: its turn costs a search by halves in the lists of its literals, up to the
-/// first that has no newer id, and then the newer clauses of one of them. Once this has finished, `seen` remembers the ids
+/// first that has no newer id, and then the newer clauses of one of them, unless the filter answers first. Once this has finished, `seen` remembers the ids
 /// that there are.
 pub fn subsume_again(
     alloc: Global,
@@ -46,25 +48,30 @@ pub fn subsume_again(
     ensures answer { IfOk result (λ ran. IsAnswer subsumption budget store.old store.new ran) }
     ensures rested { OnOk result (IsRested subsuming.IsIdle seen.new store.new) }
 {
-    let mut turn = Subsumption { mark: seen.mark };
+    let mut turn = Subsumption {
+        mark: seen.mark,
+        filter: Filter::since(alloc, store, seen.mark)?,
+    };
     let ran = run_turns(alloc, store, &mut turn, budget)?;
     remember(alloc, store, ran.ending, seen);
     Ok(ran)
 }
 
-/// The clauses below the mark need not be held against each other.
+/// The clauses below the mark need not be held against each other; the filter tells of those that there were at first.
 #[derive(Drop)]
 struct Subsumption {
     mark: ClauseId,
+    filter: Filter,
 }
 
 impl Turn for Subsumption {
     ghost use Rattle.t_subsume.specs.Subsumption.{subsuming};
     ghost use Rattle.t_subsume.specs.Containment.{NoneHeldBelow};
+    ghost use Rattle.t_subsume.specs.Filtering.{Tells};
 
     ghost turning = { subsuming };
 
-    ghost fits = { λ t h. NoneHeldBelow t.mark h.slots };
+    ghost fits = { λ t h. NoneHeldBelow t.mark h.slots × Tells t.filter h.slots };
 
     fn candidates(&self, alloc: Global, store: &Store) -> Result<Items, NoMemory> {
         live_clause_ids(alloc, store)
@@ -83,8 +90,10 @@ impl Turn for Subsumption {
         }
         // what holds of each store makes the clause one that may be looked for
         let _ = store.vars();
-        let least = least_for(id, self.mark);
-        let gone = holders(alloc, store, store.clause(id), id, least)?;
+        let clause = store.clause(id);
+        let known = least_for(id, self.mark);
+        let least = self.filter.least_holder(store, clause, id, true, known);
+        let gone = holders(alloc, store, clause, id, least)?;
         if gone.len() == 0 {
             return Ok(Turned::Idle);
         }

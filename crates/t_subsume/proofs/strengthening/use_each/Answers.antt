@@ -5,6 +5,7 @@ use Rattle.t_subsume.specs.Shortening.{StrengthensNoneBelow}
 use Rattle.t_subsume.specs.Strengthening.{strengthening, self_subsumption}
 use Rattle.t_subsume.proofs.Strengthened.{strengthening-sound, strengthens-none-run}
 use Rattle.t_subsume.proofs.Parts.{part-none, each-more, each-still, each-useless, not-refuted}
+use Rattle.t_subsume.proofs.Filtered.{tells-run}
 use Rattle.t_subsume.proofs.strengthening.use_each.Goals.{then-branch+else-refuted, else-branch}
 use Rattle.t_subsume.proofs.strengthening.use_each.Goals as goal
 
@@ -13,6 +14,9 @@ loop-place-init c = record { run = run-itself strengthening c.args.store.now str
 
 pub use_one-requires-clause-rested : goal.use_one-requires-clause-rested
 use_one-requires-clause-rested c = subst (StrengthensNoneBelow c.args.least c.loop-place.store.slots) (sym c.loop-place.invariant.lits) c.loop-place.invariant.rested
+
+pub use_one-requires-clause-tells : goal.use_one-requires-clause-tells
+use_one-requires-clause-tells c = tells-run self_subsumption.LeavesAlone c.args.filter.now c.args.store.now c.loop-place.store c.requires.tells c.loop-place.invariant.run
 
 pub returns-in_err-use_one-clause-run : goal.returns-in_err-use_one-clause-run
 returns-in_err-use_one-clause-run c = run-more self_subsumption.LeavesAlone c.args.store.now c.loop-place.store c.use_one.new.store strengthening-sound.twice (none-empty c.loop-place.store c.vars.ensures.sound c.loop-place.invariant.unrefuted) c.loop-place.invariant.run c.use_one.ensures.run
