@@ -1,8 +1,8 @@
 -- What fixing one literal does to a store: a run, costs that were there before, and a smaller state.
 use Rattle.std.proofs.Common.{◌≡◌, ◌≢◌, ◌⊎◌, ℕ, ◌+◌, ◌<◌, ◌≤◌, Bool, true, false, not, cond, List, [], ◌∷◌, ◌++◌, length, get_or, refl, sym, ◌∙◌, ap, subst, arith, sum_by, sum, inl, inr, Contains, add-zero}
-use Rattle.std.specs.Prelude.{Option, Some, None, ◌==◌, ◌||◌, ◌&&◌, map}
-use Rattle.std.specs.List.{list_any, list_all}
-use Rattle.std.proofs.lemmas.Bool.{cases_lt, cases_Bool, eqb-true, eq-eqb, or_left, true≢false}
+use Rattle.std.specs.Prelude.{Option, Some, None, ◌==◌, ◌||◌, ◌&&◌}
+use Rattle.std.specs.List.{list_all}
+use Rattle.std.proofs.lemmas.Bool.{cases_Bool, eqb-true, eq-eqb, or_left, true≢false}
 use Rattle.std.proofs.lemmas.List.{length-append}
 use Rattle.std.proofs.lemmas.List.Elements.{Contains-append_cases}
 use Rattle.mp_logic.specs.Literal.{Literal, negation, IsUpTo}
@@ -24,14 +24,14 @@ use Rattle.mp_store.specs.Rewriting.{changed_by, after}
 use Rattle.mp_store.specs.Soundness.{IsStore}
 use Rattle.mp_clauses.specs.Occurrences.{ids_where}
 use Rattle.mp_store.specs.Fixing.{meets, clashes, without, slot_touched, touched_by, left_of, shortened, paid_off_one, paid_off, fixing_of}
-use Rattle.mp_store.specs.Measures.{occurs, occurring, is_covered, uncovered, IsLower, IsSmaller}
+use Rattle.mp_store.specs.Measures.{occurs, occurring, is_covered, uncovered, IsSmaller}
 use Rattle.mp_store.specs.Techniques.{IsRun}
 use Rattle.mp_clauses.proofs.Pricing.{cost_at, has_cost, sum-costs, place-literal}
 use Rattle.mp_store.proofs.Sound.{live-after}
 use Rattle.mp_clauses.proofs.Found.{any-by, any-found, ids_where-at, ids_where-once}
 use Rattle.mp_store.proofs.Fixes.{sum-set-zero, weighted-zeros, weights-fixed, paid-from, untouched-left, touched-live, shortened-from, filter-from}
 use Rattle.mp_store.proofs.KeptFixing.{live-id, cleared-out, cleared-other, negated-one, meets-one, one-meets, new-slots, fixed-weights, table-fixed, untouched-live, store-fixed, store-paid, store-variables}
-use Rattle.mp_store.proofs.Measured.{occurs-by, occurs-found, occurring-le, occurring-lower, uncovered-le, covered-only, only-covered, lower-or-same}
+use Rattle.mp_store.proofs.Measured.{occurs-by, occurs-found, occurring-lower, uncovered-le, covered-only, lower-or-same}
 use Rattle.mp_store.proofs.Replaced.{replaced_count}
 use Rattle.mp_store.proofs.Rewritten.{run-after}
 

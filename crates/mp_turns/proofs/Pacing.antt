@@ -1,6 +1,8 @@
 -- What a turn leaves of a technique under way.
-use Rattle.std.proofs.Common.{◌≡◌, ◌⊎◌, ℕ, ◌+◌, ◌*◌, ◌-◌, ◌<◌, ◌≤◌, Bool, true, false, List, [], ◌∷◌, ◌++◌, Contains, length, length-append, append_assoc, suc, refl, sym, ◌∙◌, ap, subst, arith, inl, inr}
+use Rattle.std.proofs.Common.{◌≡◌, ◌⊎◌, ℕ, ◌+◌, ◌*◌, ◌-◌, ◌<◌, ◌≤◌, Bool, true, false, List, [], ◌∷◌, ◌++◌, Contains, get_or, length, length-append, append_assoc, suc, refl, sym, ◌∙◌, ap, subst, arith, inl, inr}
 use Rattle.std.specs.Prelude.{Option, Some, None, IfSome}
+use Rattle.std.proofs.lemmas.Bool.{true≢false, cases_eq}
+use Rattle.std.proofs.lemmas.List.{get_or_default}
 use Rattle.std.proofs.lemmas.List.Elements.{Contains-push_cases}
 use Rattle.std.proofs.Math.Nat.{mul-add, mul-le-mul_right}
 use Rattle.mp_logic.specs.Keeping.{State}
@@ -8,14 +10,14 @@ use Rattle.mp_logic.proofs.Members.{Contains-none, Contains-first, Contains-case
 use Rattle.mp_store.specs.Held.{Held, labelled_of, IsUntouched}
 use Rattle.mp_store.specs.Measures.{IsSmaller}
 use Rattle.mp_store.specs.Soundness.{IsStore}
-use Rattle.mp_store.specs.Techniques.{Technique, HasIdle, IsRun, IsAnswer, IsChange}
+use Rattle.mp_store.specs.Techniques.{HasIdle, IsRun, IsAnswer}
 use Rattle.mp_store.specs.Turns.{IsBetween, IsLeft, has_turn, one_less}
 use Rattle.mp_store.specs.declared.ran.Ending.TheVariants.{Finished, Spent, NoRoom}
-use Rattle.mp_store.proofs.Runs.{run-same, run-more, none-empty, between-none, between-more, between-same, between-spent, unchanged, untouched-twice, untouched-back, smaller-then, left-whole, left-spent}
+use Rattle.mp_store.proofs.Runs.{run-same, run-more, none-empty, between-none, between-more, between-same, between-spent, untouched-twice, untouched-back, left-whole, left-spent}
 use Rattle.mp_turns.specs.Turning.{Turning, IsTurning}
 use Rattle.mp_turns.specs.Turned.{IsChangeOf}
 use Rattle.mp_turns.specs.Waiting.{all_queued}
-use Rattle.mp_turns.specs.Underway.{StaysWithin, IsUnderway}
+use Rattle.mp_turns.specs.Underway.{StaysWithin, IsUnderway, AreAwake}
 use Rattle.mp_turns.proofs.Queueing.{queued-all-waits, queued-all-own, length-all-queued, queued-all-first}
 
 pub same-state : (s h : Held) → IsUntouched s h → labelled_of h ≡ labelled_of s
@@ -72,7 +74,30 @@ underway-begin t budget s queue T sound n e =
       stays = T.stays_itself s s refl;
       covers = λ i. elim (T.others s i sound) [ inl m ↦ inl (subst (λ q. Contains q i) (sym whole) m) | inr r ↦ inr r ];
       fewer = omega arith;
-      first = λ f. ([], sym whole, sym w.1, λ i h. absurd (Contains-none i h));
+      first = λ f n some. ([], sym whole, sym w.1, λ i h. absurd (Contains-none i h));
+    }
+
+-- without a budget only those need to wait that are not known to be idle
+pub underway-awake : (t : Turning) (s : Held) (queue : List ℕ) → IsTurning t → IsStore s → s.refuted ≡ false → AreAwake t s queue → IsUnderway t None None s s queue false
+underway-awake t s queue T sound n a =
+    let few = a.few in
+    let counted = T.counted s sound in
+    let w = between-none t.technique None s T.itself n in
+    let bound = w.0.paced.bound in
+    record {
+      between = record {
+        run = w.0.run;
+        unrefuted = w.0.unrefuted;
+        change = w.0.change;
+        used = 0;
+        paced = record { left = w.0.paced.left; falls = w.0.paced.falls; bound = omega (arith, bound, w.1, few, counted) };
+      };
+      turns = 0;
+      spent = left-whole None;
+      stays = T.stays_itself s s refl;
+      covers = λ i. elim (T.others s i sound) [ inl m ↦ a.covers i m | inr r ↦ inr r ];
+      fewer = omega arith;
+      first = λ f m some. absurd (cc);
     }
 
 -- a turn that changes nothing
@@ -91,8 +116,8 @@ underway-idle t budget left s h u item rest changed T b sound sp e idle turned =
         | inr r ↦ inr (stays i r)
       ];
       fewer = subst (λ (x : State). length (t.technique.candidates x) ≤ length (t.technique.candidates (labelled_of s))) (sym labels) b.fewer;
-      first = λ f.
-          let was = b.first f in
+      first = λ f n some.
+          let was = b.first f n some in
           let own : t.IsIdle s item = T.untouched h s item (untouched-back s h (b.between.change.same f)) idle in
           (was.0 ++ item ∷ [], was.1 ∙ sym (append_assoc was.0 (item ∷ []) rest), length-append was.0 (item ∷ []) ∙ (ap (λ n. n + 1) was.2 ∙ sym w.1), λ i m. elim (Contains-push_cases was.0 item i m) [ inl v ↦ was.3 i v | inr g ↦ subst (t.IsIdle s) g own ]);
     }
@@ -126,19 +151,26 @@ underway-smaller t budget left s h u item rest again queue changed b n what e =
     let len : length queue ≤ length rest + length again = rw e (length-all-queued rest again) in
     potential-falls (length (t.technique.candidates (labelled_of s))) (length (t.technique.candidates (labelled_of h))) (t.technique.size (labelled_of h)) (t.technique.size (labelled_of u)) (length rest) (length again) (length queue) b.fewer c.falls c.few len
 
--- where nothing changed so many candidates are idle
-underway-first : (t : Turning) (budget left : Option ℕ) (s h : Held) (queue : List ℕ) (changed : Bool) → IsTurning t → IsStore s → (b : IsUnderway t budget left s h queue changed) → changed ≡ false → HasIdle t.technique (labelled_of h) b.between.used
-underway-first t budget left s h queue changed T start b f =
-    let was = b.first f in
+-- where there is a budget and nothing changed so many candidates are idle
+underway-first : (t : Turning) (budget left : Option ℕ) (s h : Held) (queue : List ℕ) (changed : Bool) → IsTurning t → IsStore s → (b : IsUnderway t budget left s h queue changed) → (n : ℕ) → budget ≡ Some n → changed ≡ false → HasIdle t.technique (labelled_of h) b.between.used
+underway-first t budget left s h queue changed T start b n some f =
+    let was = b.first f n some in
     let first : HasIdle t.technique (labelled_of s) b.between.used = subst (HasIdle t.technique (labelled_of s)) was.2 (T.idle s was.0 queue start was.1 was.3) in
     subst (λ (x : State). HasIdle t.technique x b.between.used) (sym (same-state s h (b.between.change.same f))) first
 
+-- where no turn is left there is a budget
+some-budget : (budget left : Option ℕ) (used : ℕ) → IsLeft budget used left → has_turn left ≡ false → (n : ℕ) × (budget ≡ Some n)
+some-budget None left used e none = absurd (true≢false (sym (ap has_turn e) ∙ none))
+some-budget (Some n) left used e none = (n, refl)
+
 -- the budget is used up, and a candidate waits
 pub underway-spent : (t : Turning) (budget left : Option ℕ) (s h : Held) (item : ℕ) (rest : List ℕ) (changed : Bool) → IsTurning t → IsStore s → IsUnderway t budget left s h (item ∷ rest) changed → IsStore h → has_turn left ≡ false → IsAnswer t.technique budget s h (record { ending = Spent; changed = changed })
-underway-spent t budget left s h item rest changed T start b sound none = record {
-  change = b.between.change;
-  ending = between-spent t.technique budget left s h changed (length (item ∷ rest)) b.between sound none (omega arith) (underway-first t budget left s h (item ∷ rest) changed T start b);
-}
+underway-spent t budget left s h item rest changed T start b sound none =
+    let n = some-budget budget left b.turns b.spent none in
+    record {
+      change = b.between.change;
+      ending = between-spent t.technique budget left s h changed (length (item ∷ rest)) b.between sound none (omega arith) (underway-first t budget left s h (item ∷ rest) changed T start b n.0 n.1);
+    }
 
 -- no candidate waits
 pub underway-done : (t : Turning) (budget left : Option ℕ) (s h : Held) (changed : Bool) → IsTurning t → IsStore h → IsUnderway t budget left s h [] changed → IsAnswer t.technique budget s h (record { ending = Finished; changed = changed })
@@ -164,4 +196,24 @@ underway-full t budget left s h u queue changed b e wants full =
         smaller = λ f. elim (b.between.change.smaller f) [ inl r ↦ inl (ap (λ (x : Held). x.refuted) e ∙ r) | inr k ↦ inr (subst (λ (x : State). IsSmaller x (labelled_of s)) (sym labels) k) ];
       };
       ending = (wants, full);
+    }
+
+-- one candidate more that waits or is idle
+pub awake-more : (t : Turning) (h : Held) (first old new : List ℕ) (n item : ℕ) → item ≡ get_or first n 0 → ((k : ℕ) → k < n → Contains old (get_or first k 0) ⊎ t.IsIdle h (get_or first k 0)) → ((i : ℕ) → Contains old i → Contains new i) → Contains new item ⊎ t.IsIdle h item → (k : ℕ) → k < n + 1 → Contains new (get_or first k 0) ⊎ t.IsIdle h (get_or first k 0)
+awake-more t h first old new n item at before waits own k lt =
+    elim (cases_eq k n) [
+      | inl e ↦ subst (λ i. Contains new i ⊎ t.IsIdle h i) (at ∙ ap (λ j. get_or first j 0) (sym e)) own
+      | inr other ↦ elim (before k (omega (arith, lt, other))) [ inl m ↦ inl (waits (get_or first k 0) m) | inr r ↦ inr r ]
+    ]
+
+pub all-awake : (t : Turning) (h : Held) (first queue : List ℕ) (n : ℕ) → first ≡ t.candidates h → length first ≤ n → n ≤ length first → ((k : ℕ) → k < n → Contains queue (get_or first k 0) ⊎ t.IsIdle h (get_or first k 0)) → length queue ≤ n → AreAwake t h queue
+all-awake t h first queue n e low high each few =
+    let same : length first ≡ length (t.candidates h) = ap (λ (q : List ℕ). length q) e in
+    record {
+      covers = λ i m.
+          let there : Contains first i = subst (λ q. Contains q i) (sym e) m in
+          let lt = there.1 in
+          let at : get_or first there.0 0 ≡ i = get_or_default first there.0 0 i there.1 ∙ there.2 in
+          subst (λ j. Contains queue j ⊎ t.IsIdle h j) at (each there.0 (omega (arith, lt, low)));
+      few = omega (arith, few, high, same);
     }

@@ -1,25 +1,24 @@
 -- What a queue has after several items.
 use Rattle.std.proofs.Common.{◌≡◌, ◌⊎◌, ℕ, ◌+◌, ◌≤◌, Bool, true, false, not, cond, List, [], ◌∷◌, ◌++◌, Contains, length, length-append, append_assoc, refl, sym, ◌∙◌, ap, subst, arith, inl, inr}
-use Rattle.std.proofs.lemmas.Bool.{cases_Bool, and_parts, not-true, or_cases, false_from_ne_true, true≢false, eqb-true, ne_eqb, eq-eqb}
+use Rattle.std.proofs.lemmas.Bool.{and_parts, not-true, false_from_ne_true, true≢false}
 use Rattle.std.proofs.lemmas.List.{append-nil}
 use Rattle.std.proofs.lemmas.List.Elements.{Contains-append_left, Contains-push}
-use Rattle.std.specs.Prelude.{◌==◌}
 use Rattle.mp_logic.proofs.Members.{Contains-none, Contains-first, Contains-later, Contains-cases}
 use Rattle.mp_clauses.specs.Places.{is_in, no_repeats}
 use Rattle.mp_store.specs.Queue.{queued}
 use Rattle.mp_clauses.proofs.Found.{is_in-by, is_in-contains}
 use Rattle.mp_turns.specs.Waiting.{all_queued}
 
-queued-waits : (q : List ℕ) (x i : ℕ) → Contains q i → Contains (queued q x) i
+pub queued-waits : (q : List ℕ) (x i : ℕ) → Contains q i → Contains (queued q x) i
 queued-waits q x i h = elim (is_in x q) as (λ b. Contains (cond b q (q ++ x ∷ [])) i) [ true ↦ h | false ↦ Contains-append_left q (x ∷ []) i h ]
 
-queued-own : (q : List ℕ) (x : ℕ) → Contains (queued q x) x
+pub queued-own : (q : List ℕ) (x : ℕ) → Contains (queued q x) x
 queued-own q x =
     let step : (b : Bool) → is_in x q ≡ b → Contains (cond b q (q ++ x ∷ [])) x =
     λ (t : Bool). elim t as (λ b. is_in x q ≡ b → Contains (cond b q (q ++ x ∷ [])) x) [ true ↦ λ e. is_in-contains q x e | false ↦ λ e. Contains-push q x ] in
     step (is_in x q) refl
 
-length-queued : (q : List ℕ) (x : ℕ) → length (queued q x) ≤ length q + 1
+pub length-queued : (q : List ℕ) (x : ℕ) → length (queued q x) ≤ length q + 1
 length-queued q x = elim (is_in x q) as (λ b. length (cond b q (q ++ x ∷ [])) ≤ length q + 1) [ true ↦ omega arith | false ↦ omega (arith, length-append q (x ∷ [])) ]
 
 pub queued-all-waits : (q xs : List ℕ) (i : ℕ) → Contains q i → Contains (all_queued q xs) i

@@ -1,5 +1,5 @@
 -- Clauses that each have all literals of some clause of another list.
-use Rattle.std.proofs.Common.{◌≡◌, ℕ, ◌<◌, ◌≤◌, true, List, [], ◌∷◌, length, refl, ap, arith, inl, inr, Contains, sum_by}
+use Rattle.std.proofs.Common.{◌≡◌, ℕ, ◌<◌, ◌≤◌, true, List, [], ◌∷◌, length, ap, inl, inr, Contains, sum_by}
 use Rattle.mp_logic.specs.Literal.{Literal}
 use Rattle.mp_logic.specs.Keeping.{State}
 use Rattle.mp_logic.specs.Sets.{Among, Entails}

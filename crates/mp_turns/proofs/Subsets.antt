@@ -1,5 +1,5 @@
 -- Rising lists within other lists.
-use Rattle.std.proofs.Common.{◌≡◌, ◌≢◌, ℕ, ◌<◌, ◌≤◌, true, false, List, length, get_or, sym, ◌∙◌, subst, arith, Contains}
+use Rattle.std.proofs.Common.{ℕ, ◌≤◌, List, length, get_or, arith, Contains}
 use Rattle.std.specs.Prelude.{eqb}
 use Rattle.std.specs.Cmp.{nat_eq_equiv}
 use Rattle.std.specs.List.Sorted.{IsStrictlyIncreasing}

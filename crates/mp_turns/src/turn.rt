@@ -1,4 +1,4 @@
-ghost use Rattle.std.specs.Prelude.{◌≡◌, [], IfOk, OnOk, false, ℕ};
+ghost use Rattle.std.specs.Prelude.{◌≡◌, [], IfOk, OnOk, true, false, ℕ};
 ghost use Rattle.mp_store.specs.Held.{Held};
 ghost use Rattle.mp_store.specs.Techniques.{IsRun};
 ghost use Rattle.mp_turns.specs.Turning.{Turning};
@@ -29,6 +29,16 @@ pub trait Turn {
     /// The candidates of a store, rising.
     fn candidates(&self, alloc: Global, store: &Store) -> Result<Items, NoMemory>
         ensures { IfOk result (λ made. made ≡ turning.candidates store.now) };
+
+    /// Whether the technique knows from its own tables, without a turn, that the candidate admits no change. Without a budget it
+    /// takes no turn then; where a change named it later, it would be put last, and so lose its place in the order of turns.
+    fn is_known_idle(&self, store: &Store, item: u64) -> bool
+        requires unrefuted { store.now.refuted ≡ false }
+        requires fits { fits self.now store.now }
+        ensures { result ≡ true → turning.IsIdle store.now item }
+    {
+        false
+    }
 
     /// A turn on one candidate. Those that a change may have made applicable are put into `again`, rising.
     fn turn(

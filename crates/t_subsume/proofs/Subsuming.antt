@@ -238,3 +238,15 @@ none-held-run mark h u a r =
 
 pub no-holder : (id mark least : ℕ) (slots : List (Option (List Literal))) (c : List Literal) → NoneHeldBelow mark slots → clause_of slots id ≡ Some c → least ≤ mark → (0 < least → id < mark) → HasNoHolderBelow least slots c id
 no-holder id mark least slots c a e low old j d lt f n m = a.none id c (old (omega arith)) e j d (omega arith) f n m
+
+pub same-clause : (slots : List (Option (List Literal))) (id : ℕ) (c d : List Literal) → clause_of slots id ≡ Some c → clause_of slots id ≡ Some d → c ≡ d
+same-clause slots id c d e f = same_some (clause_of slots id) c d e f
+
+pub live-low : (s : List (Option (List Literal))) (i : ℕ) (c : List Literal) → clause_of s i ≡ Some c → i < length s
+live-low [] i c e = absurd (cc)
+live-low (x ∷ s) zero c e = omega arith
+live-low (x ∷ s) (suc i) c e = let rest = live-low s i c e in omega (arith, rest)
+
+-- where no id of the store is left
+pub passed-idle : (slots : List (Option (List Literal))) (id least : ℕ) → length slots ≤ least → ((c : List Literal) → clause_of slots id ≡ Some c → HasNoHolderBelow least slots c id) → IsNotSubsuming slots id
+passed-idle slots id least past none c e j d f n m = none c e j d (let low = live-low slots j d f in omega (arith, low, past)) f n m

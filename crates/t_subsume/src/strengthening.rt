@@ -89,6 +89,15 @@ impl Turn for Strengthening {
         live_clause_ids(alloc, store)
     }
 
+    fn is_known_idle(&self, store: &Store, item: u64) -> bool {
+        let id = item as usize;
+        if !store.live(id) {
+            return true;
+        }
+        self.filter
+            .lacks_one(store, store.clause(id), least_for(id, self.mark))
+    }
+
     fn turn(
         &mut self,
         alloc: Global,

@@ -5,9 +5,13 @@
 //! comes first stays. It costs the clauses of one of its literals, that of the fewest, or a look-up for each literal where a
 //! filter, made once a run, tells that there is none. A clause that subsumed none before subsumes none when others go, so
 //! nothing is queued again.
-ghost use Rattle.std.specs.Prelude.{◌≡◌, IfOk, OnOk, false};
+ghost use Rattle.std.specs.Prelude.{◌≡◌, IfOk, OnOk, List, Some, true, false};
+ghost use Rattle.mp_logic.specs.Literal.{Literal};
+ghost use Rattle.mp_clauses.specs.Slots.{clause_of, is_live};
 ghost use Rattle.mp_store.specs.Techniques.{IsRun, IsAnswer, KeepsIds};
 ghost use Rattle.mp_resting.specs.Resting.{IsRested};
+ghost use Rattle.t_subsume.specs.Containment.{HasNoHolderBelow, NoneHeldBelow};
+ghost use Rattle.t_subsume.specs.Filtering.{Tells};
 ghost use Rattle.t_subsume.specs.Subsumption.{subsumption, subsuming};
 
 use crate::containment::holders;
@@ -64,6 +68,22 @@ struct Subsumption {
     filter: Filter,
 }
 
+impl Subsumption {
+    /// An id below which no other clause has all literals of this one.
+    fn least(&self, store: &Store, id: ClauseId) -> ClauseId
+        requires live { is_live store.now.slots id ≡ true }
+        requires rested { NoneHeldBelow self.now.mark store.now.slots }
+        requires tells { Tells self.now.filter store.now.slots }
+        ensures { (c : List Literal) → clause_of store.now.slots id ≡ Some c → HasNoHolderBelow result store.now.slots c id }
+    {
+        // what holds of each store makes the clause one that may be looked for
+        let _ = store.vars();
+        let clause = store.clause(id);
+        let known = least_for(id, self.mark);
+        self.filter.least_holder(store, clause, id, true, known)
+    }
+}
+
 impl Turn for Subsumption {
     ghost use Rattle.t_subsume.specs.Subsumption.{subsuming};
     ghost use Rattle.t_subsume.specs.Containment.{NoneHeldBelow};
@@ -75,6 +95,14 @@ impl Turn for Subsumption {
 
     fn candidates(&self, alloc: Global, store: &Store) -> Result<Items, NoMemory> {
         live_clause_ids(alloc, store)
+    }
+
+    fn is_known_idle(&self, store: &Store, item: u64) -> bool {
+        let id = item as usize;
+        if !store.live(id) {
+            return true;
+        }
+        store.next_id() <= self.least(store, id)
     }
 
     fn turn(
@@ -90,10 +118,8 @@ impl Turn for Subsumption {
         }
         // what holds of each store makes the clause one that may be looked for
         let _ = store.vars();
-        let clause = store.clause(id);
-        let known = least_for(id, self.mark);
-        let least = self.filter.least_holder(store, clause, id, true, known);
-        let gone = holders(alloc, store, clause, id, least)?;
+        let least = self.least(store, id);
+        let gone = holders(alloc, store, store.clause(id), id, least)?;
         if gone.len() == 0 {
             return Ok(Turned::Idle);
         }

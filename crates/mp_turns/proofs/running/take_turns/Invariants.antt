@@ -1,8 +1,8 @@
-use Rattle.std.proofs.Common.{◌≡◌, ◌+◌, ◌*◌, length, false}
+use Rattle.std.proofs.Common.{◌+◌, ◌*◌, length}
 use Rattle.mp_store.specs.Held.{labelled_of}
 use Rattle.mp_store.specs.Soundness.{IsStore}
 use Rattle.mp_turns.specs.Underway.{IsUnderway}
-use Rattle.mp_turns.proofs.running.run_turns.Given as goal
+use Rattle.mp_turns.proofs.running.take_turns.Given as goal
 
 abbrev pub invariant-turns : goal.invariant-turns
 invariant-turns g l = record {
