@@ -2,7 +2,7 @@
 use Rattle.std.proofs.Common.{◌≡◌, ℕ, ◌<◌, Bool, true, false, List, length, get_or, refl, sym, ◌∙◌, ap, subst, arith, inl, inr, Contains}
 use Rattle.std.specs.Prelude.{Some, Option, IfSome, ◌&&◌, ◌==◌, not}
 use Rattle.std.specs.List.{find}
-use Rattle.std.proofs.lemmas.Bool.{cases_Bool, eq-eqb, eqb-true, and_parts, true≢false}
+use Rattle.std.proofs.lemmas.Bool.{cases_Bool, eq-eqb, and_parts, true≢false}
 use Rattle.std.proofs.lemmas.List.Elements.{Contains-get_or}
 use Rattle.mp_logic.specs.Literal.{Literal, negation}
 use Rattle.mp_logic.specs.EndStates.{NoBlocked}
@@ -12,16 +12,15 @@ use Rattle.mp_clauses.specs.Slots.{clause_of, live_clauses}
 use Rattle.mp_clauses.specs.Occurrences.{ids_with}
 use Rattle.mp_clauses.specs.Tables.{marked}
 use Rattle.mp_clauses.specs.Weighing.{costs_of, weight_in}
-use Rattle.mp_store.specs.Clashing.{clash_beside, all_clash}
+use Rattle.mp_store.specs.Clashing.{all_clash}
 use Rattle.mp_store.specs.Held.{Held, labelled_of}
 use Rattle.mp_store.specs.Soundness.{IsStore}
 use Rattle.mp_store.specs.Techniques.{IsAnswer, IsEnd}
 use Rattle.mp_store.specs.declared.ran.Ran.{Ran}
 use Rattle.mp_store.specs.declared.ran.Ending.TheVariants.{Finished}
-use Rattle.mp_clauses.proofs.Found.{any-by, any-found}
-use Rattle.mp_clauses.proofs.Pricing.{same-place}
+use Rattle.mp_clauses.proofs.Found.{any-by}
 use Rattle.mp_store.proofs.KeptFixing.{live-at, live-id}
-use Rattle.mp_store.proofs.Clashes.{free-literal, all_clash-found}
+use Rattle.mp_store.proofs.Clashes.{free-literal}
 use Rattle.mp_store.proofs.Runs.{none-empty}
 use Rattle.mp_resting.specs.declared.seen.Seen.{Seen}
 use Rattle.mp_resting.specs.Resting.{IsSeen, IsRested, IsRestedBy}
@@ -99,15 +98,4 @@ finished-rested budget old h ran seen s n answer e own =
     elim ended [
       | inl m ↦ absurd (none-empty h s n m)
       | inr none ↦ rested-now blocking.IsIdle seen h own (ends-idle h s none)
-    ]
-
--- a clause with the literal that clashes on no other variable stops the walk
-pub stopped : (v : ℕ) (hand : List Literal) (slots : List (Option (List Literal))) (l : Literal) (id : ℕ) (d : List Literal) → clause_of slots id ≡ Some d → has (place_of l) d ≡ true → clash_beside v hand d ≡ false → all_clash v hand slots (ids_with (place_of l) slots) ≡ false
-stopped v hand slots l id d e own n =
-    elim (cases_Bool (all_clash v hand slots (ids_with (place_of l) slots))) [
-      | inl t ↦
-          let w = any-found (λ (k : Literal). place_of k == place_of l) d own in
-          let same : w.0 ≡ l = same-place w.0 l (eqb-true (place_of w.0) (place_of l) w.2) in
-          absurd (true≢false (sym (all_clash-found v hand slots l t d (live-at slots id d e) (subst (Contains d) same w.1)) ∙ n))
-      | inr f ↦ f
     ]

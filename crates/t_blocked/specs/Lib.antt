@@ -1,2 +1,3 @@
 pub mod BlockedClauses
 pub mod Dropping
+pub mod Stopping

@@ -4,19 +4,19 @@
 //! it alone stays true by the other literal. Where l is no cost literal, no model costs more then.
 //!
 //! A turn takes one clause and drops it on the lowest literal that will do. It costs the clauses that have the negation of
-//! one of its literals: they are looked up in a table of the clause's own literals, up to the first that keeps it from being
-//! blocked, and nothing is allocated for it. What stopped the last such walk is tried first, since it mostly stops the next
-//! one too. A clause can become blocked only where one of the clauses that keep it from
-//! being blocked goes, so only those with the negation of a dropped literal are queued again.
+//! one of its literals, up to the first that keeps it from being blocked: those whose signatures allow a clash are looked up
+//! in a table of the clause's own literals, and nothing is allocated for it. The clause that kept the last one from being
+//! blocked on the same literal is tried before them, and most often does so again. A clause can become blocked only where one
+//! of the clauses that keep it from being blocked goes, so only those with the negation of a dropped literal are queued again.
 //!
 //! For the same reason a later run passes over a literal where none of these clauses has gone since: what was remembered of
 //! the store after an earlier run tells, without a look at them. It is asked once a literal, when a run begins; from then on
 //! the literals of dropped clauses lose their marks.
-ghost use Rattle.std.specs.Prelude.{◌≡◌, ◌≤◌, ◌+◌, ◌++◌, IfOk, IfSome, MatchOption, OnOk, OnErr, All, Contains, List, true, false, Some, length};
+ghost use Rattle.std.specs.Prelude.{◌≡◌, ◌≤◌, ◌+◌, ◌++◌, IfOk, IfSome, OnOk, OnErr, All, Contains, List, true, false, Some, length};
 ghost use Rattle.std.specs.List.{find};
 ghost use Rattle.mp_logic.specs.Literal.{Literal, IsUpTo, negation};
-ghost use Rattle.mp_clauses.specs.Places.{place_of, has};
-ghost use Rattle.mp_clauses.specs.Slots.{clause_of, is_live, live_clauses};
+ghost use Rattle.mp_clauses.specs.Places.{place_of};
+ghost use Rattle.mp_clauses.specs.Slots.{clause_of, live_clauses};
 ghost use Rattle.mp_store.specs.Held.{IsUntouched};
 ghost use Rattle.mp_store.specs.Clashing.{all_clash};
 ghost use Rattle.mp_clauses.specs.Occurrences.{ids_with};
@@ -28,9 +28,10 @@ ghost use Rattle.mp_resting.specs.Resting.{IsRested, IsRestedBy};
 ghost use Rattle.t_blocked.specs.BlockedClauses.{blocked_clauses, blocking};
 ghost use Rattle.t_blocked.specs.Dropping.{blocks, AreNear, near_in, dropping_of};
 
+use crate::stops::{Stops, find_stop, is_stop};
 use mp_logic::{ListOf, Lit, NoMemory};
 use mp_resting::{Kept, Seen};
-use mp_store::{ClauseId, Ending, LiteralSet, Ran, Store, place, repair_setting};
+use mp_store::{ClauseId, Ending, LiteralSet, Ran, Store, repair_setting};
 use mp_turns::{Items, Turn, Turned, live_clause_ids, replace, run_turns};
 use std::alloc::Global;
 
@@ -87,21 +88,21 @@ fn take_turns(
 {
     let mut turn = Blocking {
         hand: LiteralSet::new(alloc),
-        stops: vec![in alloc; 0; 2 * store.vars() as usize + 2]?,
         near: Vec::new(alloc),
+        stops: Stops::new(alloc, store)?,
         kept: Kept::of(alloc, store, seen)?,
         seen,
     };
     run_turns(alloc, store, &mut turn, budget)
 }
 
-/// The literals of the clause whose turn it is, what stopped the last walk over the clauses with a literal, by its place, the ids
-/// of the clauses near it, the literals that have kept their clauses, and what is remembered.
+/// The literals of the clause whose turn it is, the ids of the clauses near it, the clauses that last stopped a walk, the
+/// literals that have kept their clauses, and what is remembered.
 #[derive(Drop)]
 struct Blocking<'a> {
     hand: LiteralSet,
-    stops: Vec<ClauseId>,
     near: Vec<ClauseId>,
+    stops: Stops,
     kept: Kept,
     seen: &'a Seen,
 }
@@ -136,10 +137,10 @@ impl<'a> Turn for Blocking<'a> {
             store,
             self.seen,
             &self.kept,
-            &mut self.stops,
             id,
             clause,
             &mut self.hand,
+            &mut self.stops,
         )?;
         let Some(lit) = found else {
             return Ok(Turned::Idle);
@@ -181,10 +182,10 @@ fn blocking_literal(
     store: &Store,
     seen: &Seen,
     kept: &Kept,
-    stops: &mut Vec<ClauseId>,
     id: ClauseId,
     clause: &[Lit],
     hand: &mut LiteralSet,
+    stops: &mut Stops,
 ) -> Result<Option<Lit>, NoMemory>
     requires within { All (IsUpTo store.now.vars) clause.now }
     requires live { clause_of store.now.slots id ≡ Some clause.now }
@@ -199,7 +200,7 @@ fn blocking_literal(
         }
         hold_once(hand, clause, is_held)?;
         is_held = true;
-        if is_blocked_on(store, hand, stops, *lit) {
+        if is_blocked_on(store, hand, *lit, stops) {
             return Ok(Some(*lit));
         }
     }
@@ -231,71 +232,22 @@ fn needs_look(store: &Store, seen: &Seen, kept: &Kept, id: ClauseId, lit: Lit) -
     store.weight(lit) == 0
 }
 
-/// Whether each clause with the negation of the literal clashes with the clause in hand on another variable.
-fn is_blocked_on(store: &Store, hand: &LiteralSet, stops: &mut Vec<ClauseId>, lit: Lit) -> bool
+/// Whether each clause with the negation of the literal clashes with the clause in hand on another variable. The clause that
+/// last did not is tried first: where it stops the test again, no other is looked at.
+fn is_blocked_on(store: &Store, hand: &LiteralSet, lit: Lit, stops: &mut Stops) -> bool
     requires { lit.variable ≤ store.now.vars }
     ensures { result ≡ all_clash lit.variable hand.now store.now.slots (ids_with (place_of (negation lit)) store.now.slots) }
 {
-    let other = lit.negated();
-    if stops_again(store, hand, stops, lit.variable, other) {
+    let negated = lit.negated();
+    if is_stop(store, hand, negated, stops.last(negated)) {
         return false;
     }
-    match stopping(store, hand, lit.variable, store.occurrences(other)) {
+    match find_stop(store, hand, lit.variable, store.occurrences(negated)) {
         Some(id) => {
-            keep_stop(stops, other, id);
+            stops.set(negated, id);
             false
         }
         None => true,
-    }
-}
-
-/// Whether the clause that stopped the last walk over those with a literal is still there, and clashes with the clause in hand
-/// on no other variable than this one, so that it stops this walk too.
-fn stops_again(
-    store: &Store,
-    hand: &LiteralSet,
-    stops: &[ClauseId],
-    variable: u32,
-    other: Lit,
-) -> bool
-    ensures { result ≡ true → all_clash variable hand.now store.now.slots (ids_with (place_of other) store.now.slots) ≡ false }
-{
-    let Some(id) = stops.get(place(other)) else {
-        return false;
-    };
-    if !store.live(*id) {
-        return false;
-    }
-    let clause = store.clause(*id);
-    if !has_literal(clause, other) {
-        return false;
-    }
-    !hand.clashes_beside(variable, clause)
-}
-
-fn has_literal(clause: &[Lit], lit: Lit) -> bool
-    ensures { result ≡ has (place_of lit) clause.now }
-{
-    clause.iter().any(|own| place(*own) == place(lit))
-}
-
-/// The first of the ids whose clause clashes with the clause in hand on no other variable than this one.
-fn stopping(store: &Store, hand: &LiteralSet, variable: u32, ids: &[ClauseId]) -> Option<ClauseId>
-    requires { All (λ id. is_live store.now.slots id ≡ true) ids.now }
-    ensures { MatchOption result (all_clash variable hand.now store.now.slots ids.now ≡ true) (λ id. all_clash variable hand.now store.now.slots ids.now ≡ false) }
-{
-    for id in ids {
-        if !hand.clashes_beside(variable, store.clause(*id)) {
-            return Some(*id);
-        }
-    }
-    None
-}
-
-/// Keeps what stopped a walk, as a guess for the next one.
-fn keep_stop(stops: &mut Vec<ClauseId>, lit: Lit, id: ClauseId) {
-    if let Some(stop) = stops.get_mut(place(lit)) {
-        *stop = id;
     }
 }
 

@@ -7,5 +7,6 @@
 #![tactic(auto)]
 
 mod elimination;
+mod stops;
 
 pub use elimination::{blocked, blocked_again};

@@ -25,7 +25,7 @@ use Rattle.t_subsume.specs.Shortening.{lit_at, StrengthensNoneBelow}
 use Rattle.t_subsume.specs.Strengthening.{Strengthens, IsNotStrengthening}
 use Rattle.t_subsume.specs.declared.filter.Filter.{Filter}
 use Rattle.t_subsume.proofs.Embedding.{same-literals, among-embeds}
-use Rattle.t_subsume.proofs.Subsuming.{live-low}
+use Rattle.t_subsume.proofs.Subsuming.{live-low, same_some}
 
 -- a part is no longer than the whole, and as long only where it is the whole
 embeds-length : (c d : List Literal) → embeds c d ≡ true → length c ≤ length d
@@ -133,9 +133,6 @@ covers-own masks at bits lt =
     (ap (bit_or bits) (or_comm w bits) ∙ sym (or-assoc bits bits w) ∙ ap (λ x. bit_or x w) (or_self bits) ∙ or_comm bits w)
 
 -- one clause more
-same-some : (o : Option (List Literal)) (c d : List Literal) → o ≡ Some c → o ≡ Some d → c ≡ d
-same-some o c d e f = cc
-
 told-less : (from id : ℕ) (slots : List (Option (List Literal))) (i : ℕ) (c : List Literal) → i ≢ id → IsTold from (id + 1) slots i c → IsTold from id slots i c
 told-less from id slots i c n t = let high = t.high in record { low = t.low; high = omega (arith, high, n); clause = t.clause }
 
@@ -154,7 +151,7 @@ tell-dead from id masks counts marks slots lt dead t =
 pub tell-live : (from id bits : ℕ) (d : List Literal) (masks counts wider more : List ℕ) (marks marked : List Bool) (slots : List (Option (List Literal))) → id < length slots → clause_of slots id ≡ Some d → bits ≡ signature_of d → length more ≡ length counts → ((p s : ℕ) → CoversAt masks p s → CoversAt wider p s) → ((i : ℕ) → get_or counts i 0 ≤ get_or more i 0) → (3 ≤ length d → (l : Literal) → Contains d l → CoversAt wider (place_of l) bits) → (length d ≡ 2 → 2 ≤ get_or more (slot_of (length counts) d) 0 ⊎ get_or counts (slot_of (length counts) d) 0 < get_or more (slot_of (length counts) d) 0) → ((v : ℕ) → get_or marks v true ≡ true → get_or marked v true ≡ true) → ((l : Literal) → Contains d l → get_or marked l.variable true ≡ true) → Tell from id masks counts marks slots → Tell from (id + 1) wider more marked slots
 tell-live from id bits d masks counts wider more marks marked slots lt live sig len widens grows covered counted stays own-marked t =
     let room = t.room in
-    let own : (c : List Literal) → IsTold from (id + 1) slots id c → c ≡ d = λ c told. same-some (clause_of slots id) c d told.clause live in
+    let own : (c : List Literal) → IsTold from (id + 1) slots id c → c ≡ d = λ c told. same_some (clause_of slots id) c d told.clause live in
     let fresh : (c : List Literal) → c ≡ d → length c ≡ 2 → 1 ≤ get_or more (slot_of (length counts) c) 0 =
     λ c e two. subst (λ x. 1 ≤ get_or more (slot_of (length counts) x) 0) (sym e) (elim (counted (ap (λ (x : List Literal). length x) (sym e) ∙ two)) [ inl f ↦ omega (arith, f) | inr f ↦ omega (arith, f) ]) in
     let again : (i : ℕ) (c : List Literal) → IsTold from id slots i c → c ≡ d → length c ≡ 2 → 2 ≤ get_or more (slot_of (length counts) c) 0 =
@@ -251,7 +248,7 @@ marks-each c n marks le each l m =
 -- a clause with a variable that none of those told of has strengthens none of them
 pub lacking-idle : (h : Held) (f : Filter) (id least : ℕ) (c : List Literal) (k : Literal) → Tells f h.slots → clause_of h.slots id ≡ Some c → StrengthensNoneBelow least h.slots c → f.from ≤ least → length h.slots ≤ f.upto → Contains c k → get_or f.variables.items k.variable true ≡ false → IsNotStrengthening h.slots id
 lacking-idle h f id least c k t e none low all m lacks x g d l n i s =
-    let same : x ≡ c = same-some (clause_of h.slots id) x c g e in
+    let same : x ≡ c = same_some (clause_of h.slots id) x c g e in
     let has : Contains c l = subst (λ y. Contains y l) same i in
     let own : Strengthens l c d = subst (λ y. Strengthens l y d) same s in
     let at = live-id h.slots d n in

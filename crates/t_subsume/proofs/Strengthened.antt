@@ -39,13 +39,10 @@ use Rattle.t_subsume.specs.Containment.{HasNoHolderBelow, AreHolders}
 use Rattle.t_subsume.specs.Strengthening.{Strengthens, NoStrengthened, self_subsumption, IsNotStrengthening, strengthening}
 use Rattle.t_subsume.specs.Shortening.{without_literal, left_at, shortened_by, lit_at, IsUseless, AreStrengthened, StrengthensNoneBelow, NoneStrengthenedBelow}
 use Rattle.t_subsume.proofs.Flipping.{no-both, lit-in, flip-strengthens, strengthens-flip, without-from, without-has, without-shorter, without-rises, without-within}
-use Rattle.t_subsume.proofs.Subsuming.{clause-normal, clause-within}
+use Rattle.t_subsume.proofs.Subsuming.{same_some, live-low, clause-normal, clause-within}
 
 none_some : {X : Type 0} (o : Option X) (x : X) → o ≡ None → o ≡ Some x → ⊥
 none_some o x e f = cc
-
-same_some : {X : Type 0} (o : Option X) (x y : X) → o ≡ Some x → o ≡ Some y → x ≡ y
-same_some o x y e f = cc
 
 pub dead-useless : (slots : List (Option (List Literal))) (id : ℕ) → clause_of slots id ≡ None → IsNotStrengthening slots id
 dead-useless slots id n c e d l m i s = none_some (clause_of slots id) c n e
@@ -215,13 +212,10 @@ new-length h l gone =
 pub new-was : (h : Held) (l : Literal) (gone : List ℕ) (i : ℕ) (x : List Literal) → i < length h.slots → clause_of (new_slots h l gone) i ≡ Some x → clause_of h.slots i ≡ Some x
 new-was h l gone i x lt e = changed-ids gone (shortened_by (negation l) h.slots gone) h.slots i x lt e
 
-live-below : (s : List (Option (List Literal))) (i : ℕ) (c : List Literal) → clause_of s i ≡ Some c → i < length s
-live-below s i c e = elim (cases_lt i (length s)) [ inl b ↦ b | inr m ↦ absurd (none_some (clause_of s i) c (get_or_past s i None m) e) ]
-
 pub new-own : (h : Held) (id : ℕ) (c : List Literal) (l : Literal) (gone : List ℕ) → AreStrengthened h id c l gone → clause_of (new_slots h l gone) id ≡ Some c
 new-own h id c l gone a =
     let out : is_in id gone ≡ false = elim (cases_Bool (is_in id gone)) [ inl t ↦ absurd ((a.each id (is_in-contains gone id t)).2 refl) | inr f ↦ f ] in
-    (replaced_ids gone (shortened_by (negation l) h.slots gone) h.slots).kept_ids id out (live-below h.slots id c a.own) ∙ a.own
+    (replaced_ids gone (shortened_by (negation l) h.slots gone) h.slots).kept_ids id out (live-low h.slots id c a.own) ∙ a.own
 
 more-strengthens : (l : Literal) (c x d : List Literal) → Among x d → Strengthens l c x → Strengthens l c d
 more-strengthens l c x d m s = record { negated = m (negation l) s.negated; others = λ k i. elim (s.others k i) [ inl e ↦ inl e | inr j ↦ inr (m k j) ] }

@@ -40,7 +40,7 @@ use Rattle.t_subsume.specs.Subsumption.{NoSubsumed, subsumption, IsNotSubsuming,
 none_some : {X : Type 0} (o : Option X) (x : X) → o ≡ None → o ≡ Some x → ⊥
 none_some o x e f = cc
 
-same_some : {X : Type 0} (o : Option X) (x y : X) → o ≡ Some x → o ≡ Some y → x ≡ y
+pub same_some : {X : Type 0} (o : Option X) (x y : X) → o ≡ Some x → o ≡ Some y → x ≡ y
 same_some o x y e f = cc
 
 -- the technique by turns
@@ -238,9 +238,6 @@ none-held-run mark h u a r =
 
 pub no-holder : (id mark least : ℕ) (slots : List (Option (List Literal))) (c : List Literal) → NoneHeldBelow mark slots → clause_of slots id ≡ Some c → least ≤ mark → (0 < least → id < mark) → HasNoHolderBelow least slots c id
 no-holder id mark least slots c a e low old j d lt f n m = a.none id c (old (omega arith)) e j d (omega arith) f n m
-
-pub same-clause : (slots : List (Option (List Literal))) (id : ℕ) (c d : List Literal) → clause_of slots id ≡ Some c → clause_of slots id ≡ Some d → c ≡ d
-same-clause slots id c d e f = same_some (clause_of slots id) c d e f
 
 pub live-low : (s : List (Option (List Literal))) (i : ℕ) (c : List Literal) → clause_of s i ≡ Some c → i < length s
 live-low [] i c e = absurd (cc)

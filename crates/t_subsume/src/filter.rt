@@ -31,6 +31,7 @@ pub struct Filter {
 
 impl Filter {
     /// The filter for a run that remembers the ids below a mark: of the newer clauses, or of all where many are newer.
+    /// The one error is want of memory.
     pub fn since(alloc: Global, store: &Store, mark: ClauseId) -> Result<Filter, NoMemory>
         ensures { IfOk result (λ made. Tells made store.now.slots) }
     {
@@ -43,7 +44,7 @@ impl Filter {
         Filter::of(alloc, store, from)
     }
 
-    /// The filter of the clauses with ids from one on.
+    /// The filter of the clauses with ids from one on; the one error is want of memory.
     fn of(alloc: Global, store: &Store, from: ClauseId) -> Result<Filter, NoMemory>
         requires { from ≤ length store.now.slots }
         ensures { IfOk result (λ made. Tells made store.now.slots) }

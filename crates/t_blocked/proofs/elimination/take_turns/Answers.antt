@@ -13,5 +13,5 @@ run_turns-requires-clause-fits c = rested-by blocking.IsIdle c.args.seen.now c.i
 pub returns-in_err-of-clause-run : goal.returns-in_err-of-clause-run
 returns-in_err-of-clause-run c = untouched-run c.args.store.now c.args.store.now refl
 
-pub returns-in_err-vec-clause-run : goal.returns-in_err-vec-clause-run
-returns-in_err-vec-clause-run c = untouched-run c.args.store.now c.args.store.now refl
+pub returns-in_err-new-clause-run : goal.returns-in_err-new-clause-run
+returns-in_err-new-clause-run c = untouched-run c.args.store.now c.args.store.now refl
