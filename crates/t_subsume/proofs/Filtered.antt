@@ -4,9 +4,9 @@ use Rattle.std.specs.Prelude.{Option, Some, is_some, nat_lt}
 use Rattle.std.specs.Int.Bits.{or_self}
 use Rattle.std.proofs.lemmas.Bool.{cases_Bool, cases_eq, cases_lt, false≢true, true≢false}
 use Rattle.std.proofs.lemmas.Nat.{or_comm}
-use Rattle.std.proofs.lemmas.List.{get_or_default, get_or_past, length-set, get_or-set_same, get_or-set_other}
+use Rattle.std.proofs.lemmas.List.{get_or_default, length-set, get_or-set_same, get_or-set_other}
 use Rattle.std.proofs.lemmas.List.Elements.{All-contains}
-use Rattle.mp_logic.specs.Literal.{Literal, negation}
+use Rattle.mp_logic.specs.Literal.{Literal}
 use Rattle.mp_logic.specs.Keeping.{State}
 use Rattle.mp_logic.specs.Normal.{rises}
 use Rattle.mp_logic.specs.Sets.{Among}
@@ -18,14 +18,13 @@ use Rattle.mp_clauses.proofs.Signed.{signature_of_part, or-assoc}
 use Rattle.mp_store.specs.Held.{Held}
 use Rattle.mp_store.specs.Soundness.{IsStore}
 use Rattle.mp_store.specs.Techniques.{IsRun}
-use Rattle.mp_store.proofs.KeptFixing.{live-at, live-id}
+use Rattle.mp_store.proofs.KeptFixing.{live-at}
 use Rattle.t_subsume.specs.Containment.{same_literal, embeds, HasNoHolderBelow}
 use Rattle.t_subsume.specs.Filtering.{CoversAt, slot_of, IsTold, Tell, Tells, IsCleared}
-use Rattle.t_subsume.specs.Shortening.{lit_at, StrengthensNoneBelow}
-use Rattle.t_subsume.specs.Strengthening.{Strengthens, IsNotStrengthening}
+use Rattle.t_subsume.specs.Shortening.{lit_at}
 use Rattle.t_subsume.specs.declared.filter.Filter.{Filter}
 use Rattle.t_subsume.proofs.Embedding.{same-literals, among-embeds}
-use Rattle.t_subsume.proofs.Subsuming.{live-low, same_some}
+use Rattle.t_subsume.proofs.Subsuming.{same_some}
 
 -- a part is no longer than the whole, and as long only where it is the whole
 embeds-length : (c d : List Literal) → embeds c d ≡ true → length c ≤ length d
@@ -70,7 +69,6 @@ tells-run L f h u t r =
       wide = λ id c told long l m. t.wide id c (was id c told) long l m;
       pairs = λ id c told two. t.pairs id c (was id c told) two;
       twins = λ i j c a b n two. t.twins i j c (was i c a) (was j c b) n two;
-      variables = λ id c told l m. t.variables id c (was id c told) l m;
     }
 
 -- where they clear literals, none of the clauses has them all but the own one
@@ -136,8 +134,8 @@ covers-own masks at bits lt =
 told-less : (from id : ℕ) (slots : List (Option (List Literal))) (i : ℕ) (c : List Literal) → i ≢ id → IsTold from (id + 1) slots i c → IsTold from id slots i c
 told-less from id slots i c n t = let high = t.high in record { low = t.low; high = omega (arith, high, n); clause = t.clause }
 
-pub tell-dead : (from id : ℕ) (masks counts : List ℕ) (marks : List Bool) (slots : List (Option (List Literal))) → id < length slots → is_live slots id ≡ false → Tell from id masks counts marks slots → Tell from (id + 1) masks counts marks slots
-tell-dead from id masks counts marks slots lt dead t =
+pub tell-dead : (from id : ℕ) (masks counts : List ℕ) (slots : List (Option (List Literal))) → id < length slots → is_live slots id ≡ false → Tell from id masks counts slots → Tell from (id + 1) masks counts slots
+tell-dead from id masks counts slots lt dead t =
     let less : (i : ℕ) (c : List Literal) → IsTold from (id + 1) slots i c → IsTold from id slots i c = λ i c told. told-less from id slots i c (λ e. true≢false (sym (ap is_some (ap (clause_of slots) (sym e) ∙ told.clause)) ∙ dead)) told in
     record {
       within = omega (arith, lt);
@@ -145,11 +143,10 @@ tell-dead from id masks counts marks slots lt dead t =
       wide = λ i c told. t.wide i c (less i c told);
       pairs = λ i c told. t.pairs i c (less i c told);
       twins = λ i j c a b. t.twins i j c (less i c a) (less j c b);
-      variables = λ i c told. t.variables i c (less i c told);
     }
 
-pub tell-live : (from id bits : ℕ) (d : List Literal) (masks counts wider more : List ℕ) (marks marked : List Bool) (slots : List (Option (List Literal))) → id < length slots → clause_of slots id ≡ Some d → bits ≡ signature_of d → length more ≡ length counts → ((p s : ℕ) → CoversAt masks p s → CoversAt wider p s) → ((i : ℕ) → get_or counts i 0 ≤ get_or more i 0) → (3 ≤ length d → (l : Literal) → Contains d l → CoversAt wider (place_of l) bits) → (length d ≡ 2 → 2 ≤ get_or more (slot_of (length counts) d) 0 ⊎ get_or counts (slot_of (length counts) d) 0 < get_or more (slot_of (length counts) d) 0) → ((v : ℕ) → get_or marks v true ≡ true → get_or marked v true ≡ true) → ((l : Literal) → Contains d l → get_or marked l.variable true ≡ true) → Tell from id masks counts marks slots → Tell from (id + 1) wider more marked slots
-tell-live from id bits d masks counts wider more marks marked slots lt live sig len widens grows covered counted stays own-marked t =
+pub tell-live : (from id bits : ℕ) (d : List Literal) (masks counts wider more : List ℕ) (slots : List (Option (List Literal))) → id < length slots → clause_of slots id ≡ Some d → bits ≡ signature_of d → length more ≡ length counts → ((p s : ℕ) → CoversAt masks p s → CoversAt wider p s) → ((i : ℕ) → get_or counts i 0 ≤ get_or more i 0) → (3 ≤ length d → (l : Literal) → Contains d l → CoversAt wider (place_of l) bits) → (length d ≡ 2 → 2 ≤ get_or more (slot_of (length counts) d) 0 ⊎ get_or counts (slot_of (length counts) d) 0 < get_or more (slot_of (length counts) d) 0) → Tell from id masks counts slots → Tell from (id + 1) wider more slots
+tell-live from id bits d masks counts wider more slots lt live sig len widens grows covered counted t =
     let room = t.room in
     let own : (c : List Literal) → IsTold from (id + 1) slots id c → c ≡ d = λ c told. same_some (clause_of slots id) c d told.clause live in
     let fresh : (c : List Literal) → c ≡ d → length c ≡ 2 → 1 ≤ get_or more (slot_of (length counts) c) 0 =
@@ -184,16 +181,11 @@ tell-live from id bits d masks counts wider more marks marked slots lt live sig 
                   | inr q ↦ let was = t.twins i j c (told-less from id slots i c o a) (told-less from id slots j c q b) n two in omega (arith, was, grows (slot_of (length counts) c))
                 ]
           ]);
-      variables = λ i c told l m.
-          elim (cases_eq i id) [
-            | inl e ↦ own-marked l (subst (λ x. Contains x l) (own c (subst (λ k. IsTold from (id + 1) slots k c) e told)) m)
-            | inr n ↦ stays l.variable (t.variables i c (told-less from id slots i c n told) l m)
-          ];
     }
 
 -- the first table tells of nothing yet
-pub tell-none : (from : ℕ) (masks counts : List ℕ) (marks : List Bool) (slots : List (Option (List Literal))) → from ≤ length slots → 0 < length counts → Tell from from masks counts marks slots
-tell-none from masks counts marks slots le some =
+pub tell-none : (from : ℕ) (masks counts : List ℕ) (slots : List (Option (List Literal))) → from ≤ length slots → 0 < length counts → Tell from from masks counts slots
+tell-none from masks counts slots le some =
     let none : (i : ℕ) (c : List Literal) → IsTold from from slots i c → ⊥ = λ i c told. let low = told.low in let high = told.high in omega (arith, low, high) in
     record {
       within = le;
@@ -201,7 +193,6 @@ tell-none from masks counts marks slots le some =
       wide = λ i c told. absurd (none i c told);
       pairs = λ i c told. absurd (none i c told);
       twins = λ i j c a. absurd (none i c a);
-      variables = λ i c told. absurd (none i c told);
     }
 
 -- bits put to those of one literal more
@@ -217,49 +208,3 @@ covers-each c n bits masks le each l m =
     let at : lit_at c m.0 ≡ l = get_or_default c m.0 (record { variable = 0; negative = false }) l m.1 ∙ m.2 in
     let lt = m.1 in
     subst (λ k. CoversAt masks (place_of k) bits) at (each m.0 (omega (arith, le, lt)))
-
--- marks put to those of a place, and to those of one literal more
-pub marked-before : (marks : List Bool) (at v : ℕ) → get_or marks v true ≡ true → get_or (set marks at true) v true ≡ true
-marked-before marks at v h =
-    elim (cases_lt v (length marks)) [
-      | inl lt ↦ elim (cases_eq v at) [
-        | inl e ↦ rw (e, get_or-set_same marks at true true (omega (arith, lt, e))) refl
-        | inr n ↦ get_or-set_other marks at v true true n ∙ h
-      ]
-      | inr ge ↦ let long = length-set marks at true in get_or_past (set marks at true) v true (omega (arith, ge, long))
-    ]
-
-pub marked-own : (marks : List Bool) (at : ℕ) → at < length marks → get_or (set marks at true) at true ≡ true
-marked-own marks at lt = get_or-set_same marks at true true lt
-
-pub marks-more : (c : List Literal) (n : ℕ) (old new : List Bool) → ((v : ℕ) → get_or old v true ≡ true → get_or new v true ≡ true) → ((k : ℕ) → k < n → get_or old (lit_at c k).variable true ≡ true) → get_or new (lit_at c n).variable true ≡ true → (k : ℕ) → k < n + 1 → get_or new (lit_at c k).variable true ≡ true
-marks-more c n old new stays before own k lt =
-    elim (cases_eq k n) [
-      | inl e ↦ subst (λ i. get_or new (lit_at c i).variable true ≡ true) (sym e) own
-      | inr other ↦ stays (lit_at c k).variable (before k (omega (arith, lt, other)))
-    ]
-
-pub marks-each : (c : List Literal) (n : ℕ) (marks : List Bool) → length c ≤ n → ((k : ℕ) → k < n → get_or marks (lit_at c k).variable true ≡ true) → (l : Literal) → Contains c l → get_or marks l.variable true ≡ true
-marks-each c n marks le each l m =
-    let at : lit_at c m.0 ≡ l = get_or_default c m.0 (record { variable = 0; negative = false }) l m.1 ∙ m.2 in
-    let lt = m.1 in
-    subst (λ (k : Literal). get_or marks k.variable true ≡ true) at (each m.0 (omega (arith, le, lt)))
-
--- a clause with a variable that none of those told of has strengthens none of them
-pub lacking-idle : (h : Held) (f : Filter) (id least : ℕ) (c : List Literal) (k : Literal) → Tells f h.slots → clause_of h.slots id ≡ Some c → StrengthensNoneBelow least h.slots c → f.from ≤ least → length h.slots ≤ f.upto → Contains c k → get_or f.variables.items k.variable true ≡ false → IsNotStrengthening h.slots id
-lacking-idle h f id least c k t e none low all m lacks x g d l n i s =
-    let same : x ≡ c = same_some (clause_of h.slots id) x c g e in
-    let has : Contains c l = subst (λ y. Contains y l) same i in
-    let own : Strengthens l c d = subst (λ y. Strengthens l y d) same s in
-    let at = live-id h.slots d n in
-    elim (cases_lt at.0 least) [
-      | inl below ↦ none.none at.0 d l below at.1 has own
-      | inr above ↦
-          let high = live-low h.slots at.0 d at.1 in
-          let told : IsTold f.from f.upto h.slots at.0 d = record { low = omega (arith, above, low); high = omega (arith, high, all); clause = at.1 } in
-          let there : get_or f.variables.items k.variable true ≡ true = elim (own.others k m) [
-            | inl q ↦ subst (λ (y : Literal). get_or f.variables.items y.variable true ≡ true) (sym q) (t.variables at.0 d told (negation l) own.negated)
-            | inr q ↦ t.variables at.0 d told k q
-          ] in
-          true≢false (sym there ∙ lacks)
-    ]

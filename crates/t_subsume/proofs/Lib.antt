@@ -5,3 +5,4 @@ pub mod Strengthened
 pub mod Parts
 pub mod Remembering
 pub mod Filtered
+pub mod Nearby

@@ -1,5 +1,5 @@
 -- What the tables of a filter tell of clauses.
-use Rattle.std.specs.Prelude.{◌≡◌, ◌≢◌, ℕ, ◌+◌, ◌*◌, ◌%◌, ◌^◌, ◌<◌, ◌≤◌, Bool, true, cond, List, Option, Some, Contains, length, slice_index_or, bit_or}
+use Rattle.std.specs.Prelude.{◌≡◌, ◌≢◌, ℕ, ◌+◌, ◌*◌, ◌%◌, ◌^◌, ◌<◌, ◌≤◌, Bool, cond, List, Option, Some, Contains, length, slice_index_or, bit_or}
 use Rattle.mp_logic.specs.Literal.{Literal}
 use Rattle.mp_clauses.specs.Places.{place_of}
 use Rattle.mp_clauses.specs.Signatures.{signature_of}
@@ -21,18 +21,17 @@ pub record IsTold (from upto : ℕ) (slots : List (Option (List Literal))) (id :
   pub high : id < upto
   pub clause : clause_of slots id ≡ Some c
 
--- each clause of three literals and more has its bits at each of its literals; each pair is counted in its slot, equal
--- ones as two; and each variable is marked
-pub record Tell (from upto : ℕ) (masks counts : List ℕ) (marks : List Bool) (slots : List (Option (List Literal))) : Type 0 where
+-- each clause of three literals and more has its bits at each of its literals; and each pair is counted in its slot, equal
+-- ones as two
+pub record Tell (from upto : ℕ) (masks counts : List ℕ) (slots : List (Option (List Literal))) : Type 0 where
   pub within : upto ≤ length slots
   pub room : 0 < length counts
   pub wide : (id : ℕ) (c : List Literal) → IsTold from upto slots id c → 3 ≤ length c → (l : Literal) → Contains c l → CoversAt masks (place_of l) (signature_of c)
   pub pairs : (id : ℕ) (c : List Literal) → IsTold from upto slots id c → length c ≡ 2 → 1 ≤ slice_index_or counts (slot_of (length counts) c) 0
   pub twins : (i j : ℕ) (c : List Literal) → IsTold from upto slots i c → IsTold from upto slots j c → i ≢ j → length c ≡ 2 → 2 ≤ slice_index_or counts (slot_of (length counts) c) 0
-  pub variables : (id : ℕ) (c : List Literal) → IsTold from upto slots id c → (l : Literal) → Contains c l → slice_index_or marks l.variable true ≡ true
 
 abbrev pub Tells : Filter → List (Option (List Literal)) → Type 0
-Tells f slots = Tell f.from f.upto f.wide.items f.pairs.items f.variables.items slots
+Tells f slots = Tell f.from f.upto f.wide.items f.pairs.items slots
 
 -- no clause of three literals and more has all these, and of pairs no more fall into their slot than one that is counted
 pub record IsCleared (wide pairs : List ℕ) (c : List Literal) (is_counted : Bool) : Type 0 where

@@ -3,3 +3,4 @@ pub mod Subsumption
 pub mod Strengthening
 pub mod Shortening
 pub mod Filtering
+pub mod Nearness

@@ -18,15 +18,13 @@ use mp_store::{ClauseId, Store, place, signature};
 use std::alloc::Global;
 
 /// What is told of the clauses with ids from one on, below another: for each literal, by place, all bits of the signatures of
-/// those of three literals and more that have it; how many pairs fall into each slot of a table, up to two; and which variables
-/// they have.
+/// those of three literals and more that have it; and how many pairs fall into each slot of a table, up to two.
 #[derive(Drop)]
 pub struct Filter {
     from: ClauseId,
     upto: ClauseId,
     wide: Vec<u64>,
     pairs: Vec<u8>,
-    variables: Vec<bool>,
 }
 
 impl Filter {
@@ -35,13 +33,7 @@ impl Filter {
     pub fn since(alloc: Global, store: &Store, mark: ClauseId) -> Result<Filter, NoMemory>
         ensures { IfOk result (λ made. Tells made store.now.slots) }
     {
-        let all = store.next_id();
-        let from = if mark < all - all / 8 {
-            0
-        } else {
-            mark.min(all)
-        };
-        Filter::of(alloc, store, from)
+        Filter::of(alloc, store, newer_from(store.next_id(), mark))
     }
 
     /// The filter of the clauses with ids from one on; the one error is want of memory.
@@ -52,7 +44,6 @@ impl Filter {
         let upto = store.next_id();
         let mut wide = Vec::new(alloc);
         let mut pairs = vec![in alloc; 0; 1]?;
-        let mut variables = vec![in alloc; false; store.vars() as usize + 1]?;
         if from < upto {
             // of eight slots for each clause most stay empty
             wide = vec![in alloc; 0; 2 * store.vars() as usize + 2]?;
@@ -60,9 +51,7 @@ impl Filter {
         }
         for id in from..upto {
             if store.live(id) {
-                let clause = store.clause(id);
-                note(&mut wide, &mut pairs, clause, store.signature(id));
-                mark_variables(&mut variables, clause);
+                note(&mut wide, &mut pairs, store.clause(id), store.signature(id));
             }
         }
         Ok(Filter {
@@ -70,19 +59,7 @@ impl Filter {
             upto,
             wide,
             pairs,
-            variables,
         })
-    }
-
-    /// Whether all clauses from an id on are told of, and some variable of these literals is in none of them.
-    pub fn lacks_one(&self, store: &Store, lits: &[Lit], least: ClauseId) -> bool
-        ensures known { result ≡ true → (self.now.from ≤ least) × (length store.now.slots ≤ self.now.upto) }
-        ensures lacks { result ≡ true → (l : Literal) × Contains lits.now l × (slice_index_or self.now.variables.items l.variable true ≡ false) }
-    {
-        if least < self.from || self.upto < store.next_id() {
-            return false;
-        }
-        has_unmarked(&self.variables, lits)
     }
 
     /// An id below which no clause but one's own has all these literals, as it is known of `least`; `is_own` tells that they
@@ -222,42 +199,13 @@ fn covers(wide: &[u64], lit: Lit, bits: u64) -> bool
     }
 }
 
-/// Marks the variables of the clause.
-fn mark_variables(marks: &mut Vec<bool>, clause: &[Lit])
-    ensures before { (v : ℕ) → slice_index_or marks.old.items v true ≡ true → slice_index_or marks.new.items v true ≡ true }
-    ensures own { (l : Literal) → Contains clause.now l → slice_index_or marks.new.items l.variable true ≡ true }
+/// The id from which clauses count as newer than a mark, of so many: the mark, or 0 where many of them are.
+pub fn newer_from(all: ClauseId, mark: ClauseId) -> ClauseId
+    ensures { (result ≤ all) × (result ≤ mark) }
 {
-    for lit in clause {
-        mark(marks, lit.variable as usize);
-    }
-}
-
-fn mark(marks: &mut Vec<bool>, place: usize)
-    ensures before { (v : ℕ) → slice_index_or marks.old.items v true ≡ true → slice_index_or marks.new.items v true ≡ true }
-    ensures own { slice_index_or marks.new.items place true ≡ true }
-{
-    if place < marks.len() {
-        marks[place] = true;
-    }
-}
-
-/// Whether some variable of the literals has no mark, though it has a place.
-fn has_unmarked(marks: &[bool], lits: &[Lit]) -> bool
-    ensures { result ≡ true → (l : Literal) × Contains lits.now l × (slice_index_or marks.now l.variable true ≡ false) }
-{
-    for lit in lits {
-        if is_unmarked(marks, lit.variable as usize) {
-            return true;
-        }
-    }
-    false
-}
-
-fn is_unmarked(marks: &[bool], place: usize) -> bool
-    ensures { result ≡ true → slice_index_or marks.now place true ≡ false }
-{
-    match marks.get(place) {
-        Some(mark) => !*mark,
-        None => false,
+    if mark < all - all / 8 {
+        0
+    } else {
+        mark.min(all)
     }
 }

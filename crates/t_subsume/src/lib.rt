@@ -9,6 +9,7 @@
 
 mod containment;
 mod filter;
+mod near;
 mod resting;
 mod strengthening;
 mod subsumption;

@@ -22,6 +22,7 @@ ghost use Rattle.t_subsume.specs.Shortening.{without_literal, shortened_by, lit_
 
 use crate::containment::{holders, same};
 use crate::filter::Filter;
+use crate::near::Near;
 use crate::resting::{least_for, remember};
 use mp_logic::{Clause, Clauses, ListOf, Lit, NoMemory};
 use mp_resting::Seen;
@@ -61,41 +62,39 @@ pub fn strengthen_again(
         lits: ListOf::new(alloc),
         mark: seen.mark,
         filter: Filter::since(alloc, store, seen.mark)?,
+        near: Near::since(alloc, store, seen.mark)?,
     };
     let ran = run_turns(alloc, store, &mut turn, budget)?;
     remember(alloc, store, ran.ending, seen);
     Ok(ran)
 }
 
-/// The literals of the clause whose turn it is; those below the mark need not be held against each other, and the filter tells
-/// of those that there were at first.
+/// The literals of the clause whose turn it is; those below the mark need not be held against each other, and those that are not
+/// near a newer one against none; the filter tells of those that there were at first.
 #[derive(Drop)]
 struct Strengthening {
     lits: ListOf<Lit>,
     mark: ClauseId,
     filter: Filter,
+    near: Near,
 }
 
 impl Turn for Strengthening {
     ghost use Rattle.t_subsume.specs.Strengthening.{strengthening};
     ghost use Rattle.t_subsume.specs.Filtering.{Tells};
+    ghost use Rattle.t_subsume.specs.Nearness.{IsNear};
     ghost use Rattle.t_subsume.specs.Shortening.{NoneStrengthenedBelow};
 
     ghost turning = { strengthening };
 
-    ghost fits = { λ t h. NoneStrengthenedBelow t.mark h.slots × Tells t.filter h.slots };
+    ghost fits = { λ t h. NoneStrengthenedBelow t.mark h.slots × Tells t.filter h.slots × IsNear t.mark t.near h.slots };
 
     fn candidates(&self, alloc: Global, store: &Store) -> Result<Items, NoMemory> {
         live_clause_ids(alloc, store)
     }
 
     fn is_known_idle(&self, store: &Store, item: u64) -> bool {
-        let id = item as usize;
-        if !store.live(id) {
-            return true;
-        }
-        self.filter
-            .lacks_one(store, store.clause(id), least_for(id, self.mark))
+        self.near.passes(store, item as usize)
     }
 
     fn turn(

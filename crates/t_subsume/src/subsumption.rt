@@ -16,6 +16,7 @@ ghost use Rattle.t_subsume.specs.Subsumption.{subsumption, subsuming};
 
 use crate::containment::holders;
 use crate::filter::Filter;
+use crate::near::Near;
 use crate::resting::{least_for, remember};
 use mp_logic::{ListOf, NoMemory};
 use mp_resting::Seen;
@@ -55,17 +56,20 @@ pub fn subsume_again(
     let mut turn = Subsumption {
         mark: seen.mark,
         filter: Filter::since(alloc, store, seen.mark)?,
+        near: Near::since(alloc, store, seen.mark)?,
     };
     let ran = run_turns(alloc, store, &mut turn, budget)?;
     remember(alloc, store, ran.ending, seen);
     Ok(ran)
 }
 
-/// The clauses below the mark need not be held against each other; the filter tells of those that there were at first.
+/// The clauses below the mark need not be held against each other, and those that are not near a newer one against none; the
+/// filter tells of those that there were at first.
 #[derive(Drop)]
 struct Subsumption {
     mark: ClauseId,
     filter: Filter,
+    near: Near,
 }
 
 impl Subsumption {
@@ -88,17 +92,23 @@ impl Turn for Subsumption {
     ghost use Rattle.t_subsume.specs.Subsumption.{subsuming};
     ghost use Rattle.t_subsume.specs.Containment.{NoneHeldBelow};
     ghost use Rattle.t_subsume.specs.Filtering.{Tells};
+    ghost use Rattle.t_subsume.specs.Nearness.{IsNear};
 
     ghost turning = { subsuming };
 
-    ghost fits = { λ t h. NoneHeldBelow t.mark h.slots × Tells t.filter h.slots };
+    ghost fits = { λ t h. NoneHeldBelow t.mark h.slots × Tells t.filter h.slots × IsNear t.mark t.near h.slots };
 
     fn candidates(&self, alloc: Global, store: &Store) -> Result<Items, NoMemory> {
         live_clause_ids(alloc, store)
     }
 
     fn is_known_idle(&self, store: &Store, item: u64) -> bool {
+        // what holds of each store makes its clauses have literals
+        let _ = store.vars();
         let id = item as usize;
+        if self.near.passes(store, id) {
+            return true;
+        }
         if !store.live(id) {
             return true;
         }

@@ -8,7 +8,7 @@ pub run_turns-requires-clause-sound : goal.run_turns-requires-clause-sound
 run_turns-requires-clause-sound c = subsuming-sound
 
 pub run_turns-requires-clause-fits : goal.run_turns-requires-clause-fits
-run_turns-requires-clause-fits c = (none-held c.args.seen.now c.args.store.now c.requires.rested, c.in_ok-since.ensures)
+run_turns-requires-clause-fits c = (none-held c.args.seen.now c.args.store.now c.requires.rested, c.in_ok-since.ensures, c.in_ok-since-2.ensures)
 
 pub returns-clause-ids : goal.returns-clause-ids
 returns-clause-ids c = c.run_turns.ensures.stays.stays
@@ -18,3 +18,6 @@ returns-clause-rested c = rested-after subsuming c.args.seen.now c.remember.new.
 
 pub returns-in_err-since-clause-run : goal.returns-in_err-since-clause-run
 returns-in_err-since-clause-run c = run-itself subsuming c.args.store.now subsuming-sound
+
+pub returns-in_err-since-2-clause-run : goal.returns-in_err-since-2-clause-run
+returns-in_err-since-2-clause-run c = run-itself subsuming c.args.store.now subsuming-sound

@@ -4,6 +4,7 @@ use Rattle.mp_turns.proofs.Pacing.{run-itself}
 use Rattle.t_subsume.specs.Subsumption.{subsumption, subsuming}
 use Rattle.t_subsume.proofs.Subsuming.{subsuming-sound, clause-some, clause-normal, clause-within, gone-fits, drop-run, drop-changed, untouched-ids, drop-ids, none-held-run}
 use Rattle.t_subsume.proofs.Filtered.{tells-run}
+use Rattle.t_subsume.proofs.Nearby.{near-run}
 use Rattle.t_subsume.proofs.subsumption.SubsumptionTurn.turn.Goals as goal
 
 pub returns-then-not-live-clause-run : goal.returns-then-not-live-clause-run
@@ -63,4 +64,5 @@ returns-clause-fits c n =
     let run = drop-run c.args.store.now c.replace.new.store c.args.item c.clause.result.now c.in_ok-gone.gone (sym c.clause.ensures) c.in_ok-gone.ensures (rw (c.new.ensures, c.new-2.ensures) at c.in_ok-replace.ensures.ok) in (
       none-held-run c.args.self.now.mark c.args.store.now c.replace.new.store c.requires.fits.0 run,
       tells-run subsumption.LeavesAlone c.args.self.now.filter c.args.store.now c.replace.new.store c.requires.fits.1 run,
+      near-run subsumption.LeavesAlone c.args.self.now.mark c.args.self.now.near c.args.store.now c.replace.new.store c.requires.fits.2 run,
     )
