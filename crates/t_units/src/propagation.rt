@@ -6,18 +6,20 @@
 //! for its next turn. So finding that no unit is left is a turn too.
 //!
 //! A turn costs what its literal's two occurrence lists hold. Unit clauses wait by id, and each id is looked at once, so
-//! that no turn walks over all clauses.
+//! that no turn walks over all clauses. A run that remembers where an earlier one finished looks at newer ids alone.
 ghost use Rattle.std.specs.Prelude.{◌≡◌, ◌≤◌, ◌+◌, [], ◌∷◌, IfOk, IfSome, OnOk, OnErr, Contains, false, length};
 ghost use Rattle.mp_clauses.specs.Slots.{live_clauses};
 ghost use Rattle.mp_store.specs.Held.{IsUntouched};
 ghost use Rattle.mp_store.specs.Fixing.{fixing_of};
 ghost use Rattle.mp_store.specs.Rewriting.{after};
 ghost use Rattle.mp_store.specs.Techniques.{IsRun, IsAnswer};
-ghost use Rattle.t_units.specs.Units.{unit_propagation};
+ghost use Rattle.mp_resting.specs.Resting.{IsRested};
+ghost use Rattle.t_units.specs.Units.{unit_propagation, propagating};
 
 use crate::waiting::UnitQueue;
 use mp_logic::{Clause, ListOf, Lit, NoMemory};
-use mp_store::{ClauseId, Ran, Rewrite, Store};
+use mp_resting::Seen;
+use mp_store::{ClauseId, Ending, Ran, Rewrite, Store};
 use mp_turns::{Items, Turn, Turned, run_turns};
 use std::alloc::Global;
 
@@ -30,11 +32,36 @@ pub fn units(alloc: Global, store: &mut Store, budget: Option<u64>) -> Result<Ra
     ensures answer { IfOk result (λ r. IsAnswer unit_propagation budget store.old store.new r) }
     ensures turns { IfSome budget (λ b. length store.new.repairs ≤ length store.old.repairs + b) }
 {
+    let mut seen = Seen::new(alloc);
+    units_again(alloc, store, budget, &mut seen)
+}
+
+/// The same turns with the same results, where `seen` remembers the ids of an earlier store in which no clause was a unit.
+/// Ids keep their clauses for good, so those ids have none now, and the first turn looks at newer ids alone. Once this has
+/// finished and no clause is empty, `seen` remembers the ids that there are, which takes no memory; else it stays as it was.
+/// The one error is want of memory.
+pub fn units_again(
+    alloc: Global,
+    store: &mut Store,
+    budget: Option<u64>,
+    seen: &mut Seen,
+) -> Result<Ran, NoMemory>
+    requires unrefuted { store.old.refuted ≡ false }
+    requires rested { IsRested propagating.IsIdle seen.old store.old }
+    ensures run { IsRun unit_propagation.LeavesAlone store.old store.new }
+    ensures answer { IfOk result (λ r. IsAnswer unit_propagation budget store.old store.new r) }
+    ensures turns { IfSome budget (λ b. length store.new.repairs ≤ length store.old.repairs + b) }
+    ensures rested { OnOk result (IsRested propagating.IsIdle seen.new store.new) }
+{
     let mut turn = Propagation {
         waiting: UnitQueue::new(alloc),
-        seen: 0,
+        seen: seen.mark,
     };
-    run_turns(alloc, store, &mut turn, budget)
+    let ran = run_turns(alloc, store, &mut turn, budget)?;
+    if ran.ending == Ending::Finished && !store.refuted() {
+        *seen = Seen::ids(alloc, store);
+    }
+    Ok(ran)
 }
 
 /// The unit clauses of ids below `seen` that wait.
