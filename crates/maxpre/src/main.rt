@@ -10,9 +10,9 @@ ghost use Rattle.mp_modes.specs.Refusals as refusals;
 use mp_host::RealHost;
 use mp_modes::status::Status;
 use mp_modes::{Words, top};
-use std::env;
 use std::io::ErrorKind;
 use std::process::ExitCode;
+use std::{env, mem};
 
 // The exit code of a status.
 fn exit_code(status: Status) -> ExitCode
@@ -39,5 +39,8 @@ fn main(rt: HostRuntime) -> ExitCode {
     }
     let mut host = RealHost::new(rt);
     let outcome = top::maxpre(alloc, &words, &mut host);
-    exit_code(outcome.status)
+    let status = outcome.status;
+    // what the run left goes back to the system with the process, at once and not block by block
+    mem::forget(outcome);
+    exit_code(status)
 }

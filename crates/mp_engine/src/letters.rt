@@ -24,7 +24,7 @@ use t_labels::{covered, group_covered};
 use t_matching::{binary_cores, matched};
 use t_probe::{Oracle, ProbeEnding, Probed, harden, pair_cores, trim};
 use t_subsume::{strengthen_again, subsume_again};
-use t_units::units;
+use t_units::units_again;
 
 /// How a stage ended, and whether it changed anything.
 #[derive(Clone, Copy, Debug)]
@@ -103,7 +103,7 @@ pub fn run_letter<F: Fn(Global, &Query) -> Result<Verdict, NoMemory>>(
     ensures step { IfOk result (λ step. HasStepped (kind_of stage.letter) stage.budget store.old store.new step.ending step.changed) }
 {
     match stage.letter {
-        Letter::U => Ok(turned(units(alloc, store, stage.budget)?)),
+        Letter::U => Ok(turned(units_again(alloc, store, stage.budget, &mut rests.propagated)?)),
         Letter::F => Ok(turned(failed(alloc, store, stage.budget)?)),
         Letter::P => Ok(turned(pairs(alloc, store, stage.budget)?)),
         Letter::B => Ok(turned(blocked_again(alloc, store, stage.budget, &mut rests.blocked)?)),

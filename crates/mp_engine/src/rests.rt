@@ -8,6 +8,7 @@ use std::alloc::Global;
 /// What each of these techniques remembers of a store.
 #[derive(Debug, Drop)]
 pub struct Rests {
+    pub propagated: Seen,
     pub subsumed: Seen,
     pub strengthened: Seen,
     pub blocked: Seen,
@@ -20,6 +21,7 @@ impl Rests {
         ensures { (store : Held) → AreRested result store }
     {
         Rests {
+            propagated: Seen::new(alloc),
             subsumed: Seen::new(alloc),
             strengthened: Seen::new(alloc),
             blocked: Seen::new(alloc),

@@ -5,7 +5,7 @@ use Rattle.t_probe.specs.PairCores.{pair_core_search}
 use Rattle.mp_engine.specs.Letters.{kind_of}
 use Rattle.mp_engine.specs.Stores.{HasStepped}
 use Rattle.mp_engine.proofs.Asked.{asks_stepped, hardens_stepped}
-use Rattle.mp_engine.proofs.Rested.{rests-run, rests-subsumed, rests-strengthened, rests-blocked, rests-eliminated}
+use Rattle.mp_engine.proofs.Rested.{rests-run, rests-propagated, rests-subsumed, rests-strengthened, rests-blocked, rests-eliminated}
 use Rattle.mp_engine.proofs.letters.run_letter.Goals as goal
 
 pub returns-in_ok-probed-in-T-clause-step : goal.returns-in_ok-probed-in-T-clause-step
@@ -26,8 +26,8 @@ returns-in_ok-probed-in-H-clause-step g c =
     subst (λ (l : Letter). HasStepped (kind_of l) c.args.stage.budget c.args.store.now c.harden.new.store c.asked-in-H.result.ending c.asked-in-H.result.changed) (sym c.in-H.is)
     (hardens_stepped _ c.args.stage.budget _ c.args.store.now c.harden.new.store _ c.asked-in-H.result.ending c.asked-in-H.result.changed c.learning_budget-in-H.ensures a.run a.answer c.asked-in-H.ensures.ending c.asked-in-H.ensures.changed)
 
-pub returns-in_ok-units-in-U-clause-rested : goal.returns-in_ok-units-in-U-clause-rested
-returns-in_ok-units-in-U-clause-rested g c = rests-run _ c.args.rests.now c.args.store.now c.units.new.store c.requires.rested c.units.ensures.run
+pub returns-in_ok-units_again-in-U-clause-rested : goal.returns-in_ok-units_again-in-U-clause-rested
+returns-in_ok-units_again-in-U-clause-rested g c = rests-propagated _ c.args.rests.now c.units_again.new.seen c.args.store.now c.units_again.new.store c.requires.rested c.units_again.ensures.run c.in_ok-units_again-in-U.ensures.rested
 
 pub returns-in_ok-failed-in-F-clause-rested : goal.returns-in_ok-failed-in-F-clause-rested
 returns-in_ok-failed-in-F-clause-rested g c = rests-run _ c.args.rests.now c.args.store.now c.failed.new.store c.requires.rested c.failed.ensures.run
