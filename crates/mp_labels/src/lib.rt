@@ -8,6 +8,7 @@
 
 mod charges;
 mod draft;
+mod keyed;
 mod label_view;
 mod labelled;
 mod names;

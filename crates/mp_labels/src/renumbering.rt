@@ -11,7 +11,8 @@ ghost use Rattle.mp_logic.specs.Labelled.{names_rise};
 ghost use Rattle.mp_labels.specs.UnitForm.{has_variable};
 ghost use Rattle.mp_labels.specs.Tables.{IsNumbering, HasNumber, by_number};
 
-use mp_logic::{Clause, Clauses, Lit, Names, NoMemory, compare_clauses};
+use crate::keyed::{Keyed, compare_keyed};
+use mp_logic::{Clause, Clauses, Lit, Names, NoMemory};
 use std::alloc::Global;
 
 /// Marks the variables that stand in the clauses, in a table with a place for each variable from 1.
@@ -67,19 +68,30 @@ pub fn numbers_of(alloc: Global, vars: u32, names: &Names) -> Result<Vec<u32>, N
 
 /// The clauses under the numbers of their variables, in the order of clauses, repeats kept.
 ///
-/// They are made one for one and put in order where they stand, so that no table lies beside the two lists. The one error is
-/// want of memory.
+/// They are made one for one, each with a key of 8 bytes by which it is put in order, and then go without the keys into a list
+/// of their own; the table with the keys lies beside the two lists until then. The one error is want of memory.
 pub fn renumbered(alloc: Global, numbers: &[u32], clauses: &Clauses) -> Result<Clauses, NoMemory>
     requires { All (All (HasNumber numbers.now)) clauses.now }
     ensures moved { IfOk result (λ made. IsPermutation (map (map (by_number numbers.now)) clauses.now) made) }
     ensures sorted { IfOk result (λ made. IsSorted (slice_cmp lit_cmp) made) }
 {
-    let mut made = Vec::with_capacity(alloc, clauses.len())?;
+    let mut keyed = Vec::with_capacity(alloc, clauses.len())?;
     for clause in clauses.items() {
-        made.push(renumbered_clause(alloc, numbers, clause)?)?;
+        keyed.push(Keyed::new(renumbered_clause(alloc, numbers, clause)?))?;
     }
-    made.sort_unstable_by(|a, b| compare_clauses(a, b));
-    Ok(Clauses::from_vec(made))
+    keyed.sort_unstable_by(|a, b| compare_keyed(a, b));
+    Ok(Clauses::from_vec(without_keys(alloc, keyed)?))
+}
+
+/// The clauses alone, in the order that they have; the one error is want of memory.
+fn without_keys(alloc: Global, keyed: Vec<Keyed>) -> Result<Vec<Clause>, NoMemory>
+    ensures { IfOk result (λ made. made.items ≡ keyed.items) }
+{
+    let mut made = Vec::with_capacity(alloc, keyed.len())?;
+    for entry in keyed {
+        made.push(entry.into_clause())?;
+    }
+    Ok(made)
 }
 
 /// The clause under the numbers of its variables, its literals in the order that they have; the one error is want of memory.

@@ -1,4 +1,4 @@
-use Rattle.std.proofs.Common.{rules, ◌≡◌, Bool, List, is_lt, sym, subst}
+use Rattle.std.proofs.Common.{rules, ◌≡◌, Bool, List, is_lt, sym, ◌∙◌, subst}
 use Rattle.std.specs.List.Sorted.{IsSorted}
 use Rattle.std.specs.Cmp.Lexicographic.{slice_cmp}
 use Rattle.std.proofs.lemmas.Cmp.{lists_total}
@@ -11,5 +11,5 @@ use Rattle.mp_labels.proofs.renumbering.renumbered.Goals as goal
 pub returns-clause-sorted : goal.returns-clause-sorted
 returns-clause-sorted c =
     let before : List Literal → List Literal → Bool = λ x y. is_lt (slice_cmp lit_cmp x y) in
-    subst (λ (xs : List (List Literal)). IsSorted (slice_cmp lit_cmp) xs) (sym c.from_vec.ensures)
+    subst (λ (xs : List (List Literal)). IsSorted (slice_cmp lit_cmp) xs) (sym (c.from_vec.ensures ∙ c.in_ok-without_keys.ensures))
     (c.sort_unstable_by.ensures.sorted before (ranks_by (lists_total lit_cmp_total) (λ x. x)) (answers_always _ (λ a r. is_lt r ≡ before a.0.now a.1.0.now) _ (λ f a r g k. search rules)))
