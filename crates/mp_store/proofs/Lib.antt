@@ -8,5 +8,6 @@ pub mod Started
 pub mod Measured
 pub mod Replaced
 pub mod Clashes
+pub mod Signatures
 pub mod Covered
 pub mod Rewritten

@@ -8,6 +8,7 @@
 //! `mp_labels` and `mp_clauses`.
 #![tactic(auto)]
 
+mod clashing;
 mod fixing;
 mod laws;
 mod literal_set;
@@ -20,6 +21,7 @@ mod starting;
 mod store;
 mod turns;
 
+pub use clashing::{clashes_with, signature_beside};
 pub use laws::{
     counts_change, covering_is_smaller, fixing_keeps_store, payments_change, refuting_keeps,
     replaced_clauses, replaced_count, replaced_ids, replaced_sums, replacement_is_valid,
