@@ -37,8 +37,8 @@ pub fn widen_marks(marks: &mut Vec<bool>, len: usize) -> Result<(), AllocError>
     ensures ok { OnOk result (len ≤ length marks.new.items) }
     ensures same { (p : ℕ) → marked marks.new.items p ≡ marked marks.old.items p }
 {
-    'widen: while marks.len() < len {
-        marks.push(false)?;
+    if marks.len() < len {
+        marks.resize(len, false)?;
     }
     Ok(())
 }

@@ -54,3 +54,7 @@ AreKeptSince marks seen now = (before : Held) → IsSeen seen before now → Are
 -- nothing is remembered, or a store before in which all were idle and since which the marked literals have kept their clauses
 abbrev pub IsRestedBy : (Held → ℕ → Type 0) → Seen → List Bool → Held → Type 0
 IsRestedBy IsIdle seen marks now = (seen.mark ≡ 0) ⊎ ((before : Held) × IsSeen seen before now × ((i : ℕ) → IsIdle before i) × AreKept marks before now)
+
+-- whether an id is touched, by marks of those below a mark
+abbrev pub is_touched : List Bool → ℕ → Bool
+is_touched marks id = slice_index_or marks id true

@@ -56,7 +56,7 @@ live-normal h c s m = All-contains (λ c. IsTrue (rises 0 c)) (live_clauses h.sl
 pub live-within : (h : Held) (c : List Literal) → IsStore h → Contains (live_clauses h.slots) c → All (IsUpTo h.vars) c
 live-within h c s m = All-contains (All (IsUpTo h.vars)) (live_clauses h.slots) c s.labelled.hard_within m
 
-literal-within : (h : Held) (c : List Literal) (l : Literal) → IsStore h → Contains (live_clauses h.slots) c → Contains c l → IsUpTo h.vars l
+pub literal-within : (h : Held) (c : List Literal) (l : Literal) → IsStore h → Contains (live_clauses h.slots) c → Contains c l → IsUpTo h.vars l
 literal-within h c l s m i = All-contains (IsUpTo h.vars) c l (live-within h c s m) i
 
 -- the test

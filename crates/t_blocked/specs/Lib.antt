@@ -1,3 +1,4 @@
 pub mod BlockedClauses
 pub mod Dropping
 pub mod Stopping
+pub mod Untouched

@@ -11,7 +11,7 @@
 //!
 //! For the same reason a later run passes over a literal where none of these clauses has gone since: what was remembered of
 //! the store after an earlier run tells, without a look at them. It is asked once a literal, when a run begins; from then on
-//! the literals of dropped clauses lose their marks.
+//! the literals of dropped clauses lose their marks. A clause none of whose literals needs a look is passed over by one byte.
 ghost use Rattle.std.specs.Prelude.{◌≡◌, ◌≤◌, ◌+◌, ◌++◌, IfOk, IfSome, OnOk, OnErr, All, Contains, List, true, false, Some, length};
 ghost use Rattle.std.specs.List.{find};
 ghost use Rattle.mp_logic.specs.Literal.{Literal, IsUpTo, negation};
@@ -29,8 +29,9 @@ ghost use Rattle.t_blocked.specs.BlockedClauses.{blocked_clauses, blocking};
 ghost use Rattle.t_blocked.specs.Dropping.{blocks, AreNear, near_in, dropping_of};
 
 use crate::stops::{Stops, find_stop, is_stop};
+use crate::touched::touched_since;
 use mp_logic::{ListOf, Lit, NoMemory};
-use mp_resting::{Kept, Seen};
+use mp_resting::{Kept, Seen, Touched};
 use mp_store::{ClauseId, Ending, LiteralSet, Ran, Store, repair_setting};
 use mp_turns::{Items, Turn, Turned, live_clause_ids, replace, run_turns};
 use std::alloc::Global;
@@ -86,23 +87,26 @@ fn take_turns(
     ensures stays { StaysWithin blocking budget store.old store.new }
     ensures answer { IfOk result (λ ran. IsAnswer blocked_clauses budget store.old store.new ran) }
 {
+    let kept = Kept::of(alloc, store, seen)?;
     let mut turn = Blocking {
         hand: LiteralSet::new(alloc),
         near: Vec::new(alloc),
         stops: Stops::new(alloc, store)?,
-        kept: Kept::of(alloc, store, seen)?,
+        touched: touched_since(alloc, store, seen, &kept)?,
+        kept,
         seen,
     };
     run_turns(alloc, store, &mut turn, budget)
 }
 
-/// The literals of the clause whose turn it is, the ids of the clauses near it, the clauses that last stopped a walk, the
-/// literals that have kept their clauses, and what is remembered.
+/// The literals of the clause whose turn it is, the ids of the clauses near it, the clauses that last stopped a walk, those
+/// that need a look, the literals that have kept their clauses, and what is remembered.
 #[derive(Drop)]
 struct Blocking<'a> {
     hand: LiteralSet,
     near: Vec<ClauseId>,
     stops: Stops,
+    touched: Touched,
     kept: Kept,
     seen: &'a Seen,
 }
@@ -110,10 +114,11 @@ struct Blocking<'a> {
 impl<'a> Turn for Blocking<'a> {
     ghost use Rattle.mp_resting.specs.Resting.{IsRestedBy};
     ghost use Rattle.t_blocked.specs.BlockedClauses.{blocking};
+    ghost use Rattle.t_blocked.specs.Untouched.{AreIdle};
 
     ghost turning = { blocking };
 
-    ghost fits = { λ t h. IsRestedBy blocking.IsIdle t.seen.now t.kept h };
+    ghost fits = { λ t h. IsRestedBy blocking.IsIdle t.seen.now t.kept h × AreIdle t.touched h };
 
     fn candidates(&self, alloc: Global, store: &Store) -> Result<Items, NoMemory> {
         live_clause_ids(alloc, store)
@@ -129,6 +134,9 @@ impl<'a> Turn for Blocking<'a> {
         // what holds of each store makes its clauses normal
         let _ = store.vars();
         let id = item as usize;
+        if !self.touched.has(id) {
+            return Ok(Turned::Idle);
+        }
         if !store.live(id) {
             return Ok(Turned::Idle);
         }
@@ -149,6 +157,7 @@ impl<'a> Turn for Blocking<'a> {
         queue_again(&self.near, again)?;
         drop_clause(alloc, store, &self.hand, id, lit)?;
         self.kept.lose(self.hand.literals());
+        self.touched.touch(&self.near);
         Ok(Turned::Changed)
     }
 }

@@ -8,5 +8,6 @@
 
 mod elimination;
 mod stops;
+mod touched;
 
 pub use elimination::{blocked, blocked_again};

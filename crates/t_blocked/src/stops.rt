@@ -10,10 +10,10 @@ ghost use Rattle.mp_clauses.specs.Places.{place_of, has, width};
 ghost use Rattle.mp_clauses.specs.Signatures.{bit_of, signature_of};
 ghost use Rattle.mp_clauses.specs.Slots.{clause_of, is_live};
 ghost use Rattle.mp_store.specs.Clashing.{slot_clashes};
-ghost use Rattle.t_blocked.specs.Stopping.{first_stop, negations_beside};
+ghost use Rattle.t_blocked.specs.Stopping.{first_stop};
 
 use mp_logic::{Lit, NoMemory};
-use mp_store::{ClauseId, LiteralSet, Store, place};
+use mp_store::{ClauseId, LiteralSet, Store, clashes_with, place, signature_beside};
 use std::alloc::Global;
 use std::marker::Model;
 
@@ -94,38 +94,9 @@ pub fn find_stop(
 {
     let bits = signature_beside(hand, variable);
     for id in ids {
-        if !clashes_beside(store, hand, variable, bits, *id) {
+        if !clashes_with(store, hand, variable, bits, *id) {
             return Some(*id);
         }
     }
     None
-}
-
-/// The signature of the negations of the literals in hand, but of those on the variable.
-fn signature_beside(hand: &LiteralSet, variable: u32) -> u64
-    ensures { result ≡ signature_of (negations_beside variable hand.now) }
-{
-    let mut bits = 0;
-    for lit in hand.literals() {
-        if lit.variable != variable {
-            bits |= bit(lit.negated());
-        }
-    }
-    bits
-}
-
-fn bit(lit: Lit) -> u64
-    ensures { result ≡ bit_of lit }
-{
-    1 << (place(lit) % 64)
-}
-
-/// Whether the clause of the id clashes with the clause in hand beside the variable. Where its signature has none of the bits
-/// it does not, and its literals are not read.
-fn clashes_beside(store: &Store, hand: &LiteralSet, variable: u32, bits: u64, id: ClauseId) -> bool
-    requires live { is_live store.now.slots id ≡ true }
-    requires bits { bits ≡ signature_of (negations_beside variable hand.now) }
-    ensures { result ≡ slot_clashes variable hand.now (clause_of store.now.slots id) }
-{
-    store.signature(id) & bits != 0 && hand.clashes_beside(variable, store.clause(id))
 }

@@ -1,4 +1,4 @@
-use Rattle.std.proofs.Common.{◌≡◌, List, ap, not, refl, sym, ◌∙◌}
+use Rattle.std.proofs.Common.{◌≡◌, ℕ, List, ap, subst, not, refl, sym, ◌∙◌, Contains}
 use Rattle.std.specs.Prelude.{◌&&◌}
 use Rattle.mp_logic.specs.Literal.{Literal}
 use Rattle.mp_clauses.specs.Places.{has}
@@ -10,7 +10,17 @@ use Rattle.t_blocked.specs.BlockedClauses.{blocking}
 use Rattle.t_blocked.specs.Dropping.{blocks}
 use Rattle.t_blocked.proofs.Dropped.{untouched-run, untouched-stays, blocking-sound, live-within, unblocked-idle, dropped-by, dropped-run, dropped-stays, dropped-turned}
 use Rattle.t_blocked.proofs.Passed.{held-found, dropped-rested}
+use Rattle.t_blocked.proofs.Untouched.{dropped-idle}
 use Rattle.t_blocked.proofs.elimination.BlockingTurn.turn.Goals as goal
+
+pub returns-then-not-has-clause-run : goal.returns-then-not-has-clause-run
+returns-then-not-has-clause-run c = run-itself blocking c.args.store.now blocking-sound
+
+pub returns-then-not-has-clause-stays : goal.returns-then-not-has-clause-stays
+returns-then-not-has-clause-stays c = untouched-stays c.args.store.now c.args.store.now refl
+
+pub returns-then-not-has-clause-turned : goal.returns-then-not-has-clause-turned
+returns-then-not-has-clause-turned c = (refl, c.requires.empty, c.requires.fits.1 c.args.item (sym c.has.ensures ∙ c.if-not-has.true))
 
 pub returns-then-not-live-clause-run : goal.returns-then-not-live-clause-run
 returns-then-not-live-clause-run c = run-itself blocking c.args.store.now blocking-sound
@@ -93,4 +103,8 @@ pub returns-clause-fits : goal.returns-clause-fits
 returns-clause-fits c n =
     let w = held-found c.args.store.now c.args.item c.clause-clause.result.now c.blocking_literal.new.hand c.in_ok-found.found c.in-Some.lit c.clause-clause.ensures c.in_ok-found.ensures.lit c.in_ok-found.ensures.hand c.in-Some.is in
     let dropped = dropped-by c.args.item c.args.store.now c.drop_clause.new.store c.blocking_literal.new.hand c.in-Some.lit c.find_near.new.near.items w.live w.found c.in_ok-drop_clause.ensures.ok c.in_ok-find_near.ensures in
-    dropped-rested c.args.self.now.seen.now c.args.self.now.kept c.lose.new.self c.args.item c.args.store.now c.drop_clause.new.store c.find_near.new.near.items c.blocking_literal.new.hand c.vars.ensures.sound dropped w.live c.requires.fits (λ p. c.lose.ensures p ∙ ap (λ (xs : List Literal). marked c.args.self.now.kept p && not (has p xs)) c.literals.ensures)
+    let put : c.queue_again.new.again ≡ c.find_near.new.near.items = rw (c.requires.empty, c.deref.ensures.value) at c.in_ok-queue_again.ensures in
+    let turned = dropped-turned c.args.item c.args.store.now c.drop_clause.new.store c.find_near.new.near.items c.find_near.new.near.items c.vars.ensures.sound dropped refl in (
+      dropped-rested c.args.self.now.seen.now c.args.self.now.kept c.lose.new.self c.args.item c.args.store.now c.drop_clause.new.store c.find_near.new.near.items c.blocking_literal.new.hand c.vars.ensures.sound dropped w.live c.requires.fits.0 (λ p. c.lose.ensures p ∙ ap (λ (xs : List Literal). marked c.args.self.now.kept p && not (has p xs)) c.literals.ensures),
+      dropped-idle c.args.item c.args.store.now c.drop_clause.new.store c.args.self.now.touched c.touch.new.self c.find_near.new.near.items n c.requires.fits.1 c.touch.ensures.before (λ i m. c.touch.ensures.own i (subst (λ (xs : List ℕ). Contains xs i) (sym c.deref-2.ensures.value) m)) turned,
+    )
