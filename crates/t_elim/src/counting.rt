@@ -1,11 +1,13 @@
 ghost use Rattle.std.specs.Prelude.{◌≡◌, ◌≤◌, ◌<◌, ◌+◌, ◌*◌, ◌↔◌, IfOk, MatchOption, IsTrue, All, cond, length, true};
 ghost use Rattle.mp_logic.specs.Literal.{IsUpTo};
+ghost use Rattle.mp_clauses.specs.Signatures.{signature_of};
 ghost use Rattle.mp_clauses.specs.Slots.{is_live, live_clauses};
+ghost use Rattle.mp_store.specs.Clashing.{negations_beside};
 ghost use Rattle.t_elim.specs.Eliminating.{positive, negative_of, having, PaysOff};
 ghost use Rattle.t_elim.specs.Resolving.{resolvents_with, resolvents_of};
 
 use mp_logic::{Lit, NoMemory};
-use mp_store::{ClauseId, LiteralSet, Store};
+use mp_store::{ClauseId, LiteralSet, Store, clashes_with, signature_beside};
 
 /// Whether elimination of the variable pays off: there are at most 256 pairs of clauses, and no more resolvents without
 /// tautologies than clauses.
@@ -68,7 +70,8 @@ fn are_few(
             return Ok(true);
         }
         hand.hold(store.clause(*id))?;
-        if !fit(store, hand, variable, others, &mut left) {
+        let bits = signature_beside(hand, variable);
+        if !fit(store, hand, variable, bits, others, &mut left) {
             return Ok(false);
         }
         ahead -= others.len();
@@ -87,19 +90,22 @@ fn few_pairs(left: usize, right: usize) -> Option<usize>
     Some(pairs)
 }
 
-/// Takes the resolvents of the clause in hand off the number that is left, and answers whether they fitted.
+/// Takes the resolvents of the clause in hand off the number that is left, and answers whether they fitted. The bits are those
+/// of `signature_beside`.
 fn fit(
     store: &Store,
     hand: &LiteralSet,
     variable: u32,
+    bits: u64,
     others: &[ClauseId],
     left: &mut u128,
 ) -> bool
-    requires { All (λ id. is_live store.now.slots id ≡ true) others.now }
+    requires bits { bits ≡ signature_of (negations_beside variable hand.now) }
+    requires others { All (λ id. is_live store.now.slots id ≡ true) others.now }
     ensures { cond result (left.new + length (resolvents_with variable hand.now store.now.slots others.now) ≡ left.old) (left.old < length (resolvents_with variable hand.now store.now.slots others.now)) }
 {
     for id in others {
-        if !hand.clashes_beside(variable, store.clause(*id)) {
+        if !clashes_with(store, hand, variable, bits, *id) {
             if *left == 0 {
                 return false;
             }

@@ -3,7 +3,7 @@ ghost use Rattle.mp_clauses.specs.Slots.{is_live};
 ghost use Rattle.t_elim.specs.Resolving.{below, from, past, without_variable, resolvent, resolvents_with, resolvents_of};
 
 use mp_logic::{Clause, Clauses, ListOf, Lit, NoMemory};
-use mp_store::{ClauseId, LiteralSet, Store};
+use mp_store::{ClauseId, LiteralSet, Store, clashes_with, signature_beside};
 use smallvec::SmallVec;
 use std::alloc::Global;
 
@@ -50,10 +50,10 @@ fn resolve_with(
     requires { All (λ id. is_live store.now.slots id ≡ true) negative.now }
     ensures { OnOk result (made.new ≡ made.old ++ resolvents_with variable hand.now store.now.slots negative.now) }
 {
+    let bits = signature_beside(hand, variable);
     for id in negative {
-        let clause = store.clause(*id);
-        if !hand.clashes_beside(variable, clause) {
-            merge(buffer, hand.literals(), clause, variable)?;
+        if !clashes_with(store, hand, variable, bits, *id) {
+            merge(buffer, hand.literals(), store.clause(*id), variable)?;
             made.push(Clause::from_slice(alloc, buffer.as_slice())?)?;
         }
     }
