@@ -1,11 +1,11 @@
 -- What a rewrite leaves of a store's clauses and costs.
-use Rattle.std.proofs.Common.{◌≡◌, ◌≢◌, ◌⊎◌, ℕ, ◌+◌, ◌*◌, ◌<◌, ◌≤◌, Bool, true, false, not, cond, List, [], ◌∷◌, ◌++◌, length, get_or, set, zero, suc, refl, sym, ◌∙◌, ap, subst, arith, replicate, sum_by, inl, inr, Contains, All, get_or-set_other}
+use Rattle.std.proofs.Common.{◌≡◌, ◌≢◌, ℕ, ◌+◌, ◌*◌, ◌<◌, ◌≤◌, Bool, true, false, not, cond, List, [], ◌∷◌, ◌++◌, length, get_or, set, zero, suc, refl, sym, ◌∙◌, ap, subst, arith, replicate, sum_by, inl, inr, Contains, get_or-set_other}
 use Rattle.std.specs.Prelude.{Option, Some, None, ◌==◌, map}
 use Rattle.std.specs.List.{count_by}
 use Rattle.std.proofs.Math.ListN.{length-set}
-use Rattle.std.proofs.lemmas.Bool.{cases_eq, cases_Bool, eqb-true, eq-eqb, and_parts, not-true, or_left, or_right, true≢false, false≢true}
+use Rattle.std.proofs.lemmas.Bool.{cases_eq, eqb-true, eq-eqb, and_parts, not-true, or_left, or_right, true≢false}
 use Rattle.std.proofs.lemmas.List.{length-append, length-replicate}
-use Rattle.std.proofs.lemmas.List.Elements.{All-contains, Contains-append_cases, Contains-append_left, Contains-append_right}
+use Rattle.std.proofs.lemmas.List.Elements.{All-contains}
 use Rattle.std.proofs.lemmas.List.Sums.{sum_by-cons}
 use Rattle.mp_logic.specs.Literal.{Literal, IsUpTo}
 use Rattle.mp_logic.specs.Truth.{literal_value}
@@ -13,18 +13,18 @@ use Rattle.mp_logic.specs.Keeping.{charged}
 use Rattle.mp_logic.specs.declared.instances.Cost.{Cost}
 use Rattle.mp_logic.proofs.Members.{Contains-none, Contains-first, Contains-later, Contains-cases}
 use Rattle.mp_store.specs.declared.rewrite.Rewrite.{Rewrite}
-use Rattle.mp_clauses.specs.Places.{place_of, literal_at, width, is_in, no_repeats}
-use Rattle.mp_store.specs.Held.{Held, labelled_of}
+use Rattle.mp_clauses.specs.Places.{place_of, literal_at, is_in, no_repeats}
+use Rattle.mp_store.specs.Held.{Held}
 use Rattle.mp_clauses.specs.Slots.{clause_of, live_clauses}
-use Rattle.mp_clauses.specs.Weighing.{costs_from, costs_of, weight_in}
+use Rattle.mp_clauses.specs.Weighing.{costs_from, costs_of}
 use Rattle.mp_clauses.specs.Slots.{cleared}
 use Rattle.mp_clauses.specs.Weighing.{weighted}
-use Rattle.mp_store.specs.Rewriting.{weights_after, changed_by, IsValid}
+use Rattle.mp_store.specs.Rewriting.{weights_after, IsValid}
 use Rattle.mp_store.specs.Soundness.{IsStore}
 use Rattle.mp_store.specs.Changes.{priced, weight_before, SumsChange, PaymentsChange, TotalsChange, CountsChange, SameCounts}
 use Rattle.mp_clauses.proofs.Pricing.{literal-place, costs_from-longer}
-use Rattle.mp_store.proofs.Sound.{live-after, get_or-longer, place-least}
-use Rattle.mp_store.proofs.KeptFixing.{live-at, live-id, cleared-out, cleared-other}
+use Rattle.mp_store.proofs.Sound.{live-after, get_or-longer}
+use Rattle.mp_store.proofs.KeptFixing.{cleared-out}
 
 abbrev pub cost_of : ℕ → ℕ → Cost
 cost_of p w = record { lit = literal_at p; weight = w }

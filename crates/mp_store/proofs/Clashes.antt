@@ -1,8 +1,8 @@
 -- Clauses that clash, costs by literal, and what occurrence lists have.
-use Rattle.std.proofs.Common.{◌≡◌, ◌≢◌, ◌⊎◌, ℕ, ◌+◌, ◌<◌, ◌≤◌, Bool, true, false, not, List, [], ◌∷◌, get_or, zero, suc, refl, sym, ◌∙◌, ap, subst, arith, inl, inr, Contains, All, IsTrue}
+use Rattle.std.proofs.Common.{◌≡◌, ◌≢◌, ℕ, ◌+◌, Bool, true, false, not, List, [], ◌∷◌, get_or, zero, suc, refl, sym, ◌∙◌, ap, subst, arith, inl, inr, Contains, All, IsTrue}
 use Rattle.std.specs.Prelude.{Option, Some, None, is_some, ◌==◌, ◌&&◌, cond, nat_lt}
-use Rattle.std.specs.List.{list_any, list_all, find}
-use Rattle.std.proofs.lemmas.Bool.{cases_eq, cases_Bool, eq-eqb, ne_eqb, and_parts, and_from, lt-ltb, true≢false, false≢true}
+use Rattle.std.specs.List.{list_all, find}
+use Rattle.std.proofs.lemmas.Bool.{cases_eq, cases_Bool, eq-eqb, ne_eqb, and_parts, and_from, lt-ltb, true≢false}
 use Rattle.mp_logic.specs.Literal.{Literal, negation, IsUpTo}
 use Rattle.mp_logic.specs.Labelled.{IsProper}
 use Rattle.mp_logic.specs.Normal.{rises}
@@ -19,7 +19,7 @@ use Rattle.mp_clauses.proofs.Pricing.{cost_at, has_cost, literal-place, place-li
 use Rattle.mp_clauses.proofs.Found.{any-by, any-found, has-by, has-contains, exact-ids}
 use Rattle.mp_store.proofs.KeptFixing.{live-at, live-id}
 use Rattle.mp_store.proofs.Fixes.{one-literal}
-use Rattle.mp_store.proofs.Measured.{all-at, all-by}
+use Rattle.mp_store.proofs.Measured.{all-at}
 
 -- a literal of weight 0 is no cost literal, and no other is
 pub free-literal : (w : List ℕ) (l : Literal) → weight_in w l ≡ 0 → IsNoCost l (costs_of w)

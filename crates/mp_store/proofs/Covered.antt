@@ -1,17 +1,14 @@
 -- A pair of cost literals that gets covered makes the state smaller.
-use Rattle.std.proofs.Common.{◌≡◌, ◌≢◌, ◌⊎◌, ℕ, ◌+◌, ◌<◌, ◌≤◌, Bool, true, false, not, cond, List, [], ◌∷◌, length, refl, sym, ◌∙◌, ap, subst, arith, sum_by, inl, inr, Contains}
-use Rattle.std.specs.List.{count_by}
+use Rattle.std.proofs.Common.{◌≡◌, ◌≢◌, ℕ, ◌<◌, ◌≤◌, Bool, true, false, not, cond, List, [], ◌∷◌, refl, sym, ◌∙◌, ap, subst, arith, sum_by, inl, inr, Contains}
 use Rattle.std.proofs.lemmas.Bool.{false≢true}
 use Rattle.std.proofs.lemmas.List.Sums.{sum_by-cons}
 use Rattle.mp_logic.specs.Literal.{Literal}
 use Rattle.mp_logic.specs.Keeping.{State}
 use Rattle.mp_logic.specs.declared.instances.Cost.{Cost}
 use Rattle.mp_logic.proofs.Members.{Contains-none, Contains-first, Contains-later, Contains-cases, sum_by_le}
-use Rattle.mp_store.specs.declared.rewrite.Rewrite.{Rewrite}
 use Rattle.mp_clauses.specs.Places.{is_in}
-use Rattle.mp_store.specs.Held.{Held, labelled_of}
+use Rattle.mp_store.specs.Held.{labelled_of}
 use Rattle.mp_clauses.specs.Slots.{live_clauses}
-use Rattle.mp_store.specs.Rewriting.{changed_by}
 use Rattle.mp_store.specs.Measures.{is_covered, uncovered, IsSmaller}
 use Rattle.mp_store.specs.Replacing.{clauses_after, CoversStay, CoveringIsSmaller}
 use Rattle.mp_store.proofs.Measured.{uncovered-le}

@@ -1,32 +1,27 @@
 -- What a rewrite of clauses leaves.
-use Rattle.std.proofs.Common.{◌≡◌, ◌≢◌, ◌⊎◌, ℕ, ◌+◌, ◌-◌, ◌*◌, ◌<◌, ◌≤◌, Bool, true, false, cond, List, [], ◌∷◌, ◌++◌, length, get_or, set, zero, suc, refl, sym, ◌∙◌, ap, subst, arith, sum_by, sum, replicate, inl, inr, Contains, All, IsTrue, add-zero}
-use Rattle.std.specs.Prelude.{Option, Some, None, is_some, not, ◌==◌, ◌||◌, ◌&&◌, map}
-use Rattle.std.specs.List.{list_any, list_all}
-use Rattle.std.proofs.lemmas.Bool.{cases_lt, cases_eq, cases_Bool, or_parts, and_parts, eqb-true, eq-eqb, ne_eqb, true≢false, false≢true, not-true}
+use Rattle.std.proofs.Common.{◌≡◌, ◌≢◌, ◌⊎◌, ℕ, ◌+◌, ◌-◌, ◌<◌, ◌≤◌, Bool, true, false, cond, List, [], ◌∷◌, length, get_or, set, zero, suc, refl, sym, ◌∙◌, ap, subst, arith, sum_by, sum, inl, inr, Contains, All, add-zero}
+use Rattle.std.specs.Prelude.{Option, Some, None, is_some, not, ◌==◌, ◌||◌, map}
+use Rattle.std.specs.List.{list_all}
+use Rattle.std.proofs.lemmas.Bool.{cases_Bool, or_parts, and_parts, eq-eqb, ne_eqb, true≢false, false≢true, not-true}
 use Rattle.std.proofs.lemmas.List.{append-nil, length-append, get_or_append_left, get_or-append_right}
 use Rattle.std.proofs.lemmas.List.Elements.{All-contains, Contains-append_cases, Contains-append_left, Contains-append_right}
 use Rattle.std.proofs.lemmas.List.Sums.{sum_by-cons, sum_by-append}
 use Rattle.std.proofs.Math.ListN.{length-set}
 use Rattle.mp_logic.specs.Literal.{Literal, IsUpTo}
-use Rattle.mp_logic.specs.Keeping.{State, Keeps}
-use Rattle.mp_logic.specs.Sets.{Among, with_hard}
-use Rattle.mp_logic.specs.Rewrites.{IsNoCost}
+use Rattle.mp_logic.specs.Keeping.{State}
 use Rattle.mp_logic.specs.declared.instances.Cost.{Cost}
-use Rattle.mp_logic.proofs.Members.{Contains-none, Contains-first, Contains-later, Contains-cases}
+use Rattle.mp_logic.proofs.Members.{Contains-first, Contains-later}
 use Rattle.mp_store.specs.declared.rewrite.Rewrite.{Rewrite}
 use Rattle.mp_clauses.specs.Places.{place_of, is_in, no_repeats}
 use Rattle.mp_store.specs.Held.{Held, labelled_of}
 use Rattle.mp_clauses.specs.Slots.{clause_of, is_live, live_clauses, has_empty}
-use Rattle.mp_clauses.specs.Weighing.{costs_of}
 use Rattle.mp_clauses.specs.Slots.{cleared}
-use Rattle.mp_clauses.specs.Weighing.{weighted}
-use Rattle.mp_store.specs.Rewriting.{weights_after, changed_by, refuted_by, after, IsValid}
-use Rattle.mp_store.specs.Soundness.{IsStore}
-use Rattle.mp_store.specs.Measures.{occurring, is_covered, uncovered, measures, IsLower, IsSmaller}
-use Rattle.mp_store.specs.Replacing.{KeepsCosts, replaced, clauses_after, ReplacingLeaves, AreReplaced, ReplacedClauses, AreReplacedById, ReplacedIds, slot_worth, worth_of, ReplacedSums, ReplacedCount, IsReplacement, ReplacementIsValid, CoversStay, GetFewer, ReplacingIsSmaller}
+use Rattle.mp_store.specs.Rewriting.{weights_after, changed_by, refuted_by, after}
+use Rattle.mp_store.specs.Measures.{occurring, is_covered, uncovered, IsLower, IsSmaller}
+use Rattle.mp_store.specs.Replacing.{KeepsCosts, replaced, clauses_after, ReplacingLeaves, ReplacedClauses, ReplacedIds, slot_worth, worth_of, ReplacedSums, ReplacedCount, ReplacementIsValid, CoversStay, ReplacingIsSmaller}
 use Rattle.mp_clauses.proofs.Found.{any-by, any-found}
 use Rattle.mp_store.proofs.Sound.{live-after}
-use Rattle.mp_store.proofs.KeptFixing.{live-at, live-id, cleared-out, cleared-other, refuting_keeps}
+use Rattle.mp_store.proofs.KeptFixing.{live-at, live-id, cleared-out, cleared-other}
 use Rattle.mp_store.proofs.Measured.{uncovered-le, covered-only, only-covered, lower-or-same}
 
 pub same-weights : (r : Rewrite) (h : Held) → KeepsCosts r → weights_after r h ≡ h.weights

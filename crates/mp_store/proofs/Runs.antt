@@ -1,7 +1,6 @@
 -- Runs of a technique, one after the other.
-use Rattle.std.proofs.Common.{◌≡◌, ◌⊎◌, ℕ, ◌+◌, ◌*◌, ◌-◌, ◌<◌, ◌≤◌, Bool, true, false, List, [], ◌∷◌, ◌++◌, length, zero, suc, refl, sym, subst, ◌∙◌, ap, append_assoc, arith, inl, inr, Contains}
-use Rattle.std.specs.Prelude.{Option, Some, None, is_some, unwrap_or, nat_lt, ◌==◌}
-use Rattle.std.specs.List.{list_any}
+use Rattle.std.proofs.Common.{◌≡◌, ℕ, ◌+◌, ◌*◌, ◌-◌, ◌<◌, ◌≤◌, Bool, true, false, List, [], ◌∷◌, ◌++◌, length, zero, suc, refl, sym, subst, ◌∙◌, ap, append_assoc, arith, inl, inr, Contains}
+use Rattle.std.specs.Prelude.{Option, Some, None, nat_lt, ◌==◌}
 use Rattle.std.proofs.lemmas.List.{append-nil}
 use Rattle.std.proofs.Math.Nat.{mul-le-mul_left, mul-suc}
 use Rattle.std.proofs.lemmas.Bool.{true≢false, ltb-true, ltb-false}
@@ -11,11 +10,11 @@ use Rattle.mp_logic.specs.declared.instances.Repair.{Repair}
 use Rattle.mp_logic.proofs.Members.{Contains-none}
 use Rattle.mp_logic.proofs.Kept.{keeping_joins, keeping_is_reflexive}
 use Rattle.mp_store.specs.Held.{Held, labelled_of, IsUntouched}
-use Rattle.mp_clauses.specs.Slots.{clause_of, live_clauses, has_empty}
+use Rattle.mp_clauses.specs.Slots.{live_clauses}
 use Rattle.mp_store.specs.Measures.{measures, IsLower, IsSmaller}
 use Rattle.mp_store.specs.Soundness.{IsStore}
-use Rattle.mp_store.specs.Techniques.{Technique, HasIdle, IsStep, IsRun, IsChange, IsSpent}
-use Rattle.mp_store.specs.Turns.{has_turn, one_less, IsLeft, ArePaced, IsBetween}
+use Rattle.mp_store.specs.Techniques.{Technique, HasIdle, IsRun, IsChange, IsSpent}
+use Rattle.mp_store.specs.Turns.{has_turn, one_less, IsLeft, IsBetween}
 use Rattle.mp_clauses.proofs.Found.{any-by}
 
 pub lower-lower : (xs ys zs : List ℕ) → IsLower xs ys → IsLower ys zs → IsLower xs zs

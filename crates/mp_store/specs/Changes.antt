@@ -1,11 +1,10 @@
 -- What a rewrite leaves of a store's clauses and costs, as meaning.
-use Rattle.std.specs.Prelude.{◌≡◌, ◌⊎◌, ◌==◌, ℕ, ◌+◌, ◌*◌, ◌<◌, Bool, false, List, Option, Some, sum_by, length, Contains, if◌then◌else◌}
+use Rattle.std.specs.Prelude.{◌≡◌, ◌==◌, ℕ, ◌+◌, Bool, false, List, Some, sum_by, length, Contains, if◌then◌else◌}
 use Rattle.std.specs.List.{count_by}
 use Rattle.mp_logic.specs.Literal.{Literal}
-use Rattle.mp_logic.specs.Keeping.{State, charged, full_cost, total_of}
+use Rattle.mp_logic.specs.Keeping.{charged, full_cost, total_of}
 use Rattle.mp_logic.specs.declared.instances.Cost.{Cost}
 use Rattle.mp_store.specs.declared.rewrite.Rewrite.{Rewrite}
-use Rattle.mp_clauses.specs.Places.{is_in}
 use Rattle.mp_store.specs.Held.{Held, labelled_of}
 use Rattle.mp_clauses.specs.Slots.{clause_of, live_clauses}
 use Rattle.mp_clauses.specs.Weighing.{costs_of, weight_in}

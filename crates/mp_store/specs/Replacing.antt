@@ -1,16 +1,15 @@
 -- Rewrites that replace clauses and leave all costs as they are.
-use Rattle.std.specs.Prelude.{◌≡◌, ◌≢◌, ◌⊎◌, ℕ, ◌+◌, ◌<◌, ◌≤◌, true, false, List, [], ◌∷◌, ◌++◌, length, map, Option, Some, None, sum_by, All, IsTrue, Contains}
+use Rattle.std.specs.Prelude.{◌≡◌, ◌≢◌, ◌⊎◌, ℕ, ◌+◌, ◌<◌, ◌≤◌, true, false, List, [], ◌++◌, length, map, Option, Some, None, sum_by, All, IsTrue, Contains}
 use Rattle.mp_logic.specs.Literal.{Literal, IsUpTo}
 use Rattle.mp_logic.specs.Labelled.{IsProper}
 use Rattle.mp_logic.specs.Normal.{rises}
-use Rattle.mp_logic.specs.Keeping.{State, Keeps}
 use Rattle.mp_logic.specs.Sets.{Among, with_hard}
 use Rattle.mp_logic.specs.Rewrites.{IsNoCost}
 use Rattle.mp_logic.specs.declared.instances.Cost.{Cost}
 use Rattle.mp_store.specs.declared.rewrite.Rewrite.{Rewrite}
 use Rattle.mp_clauses.specs.Places.{is_in, no_repeats}
 use Rattle.mp_store.specs.Held.{Held, labelled_of}
-use Rattle.mp_clauses.specs.Slots.{clause_of, is_live, live_clauses, has_empty}
+use Rattle.mp_clauses.specs.Slots.{clause_of, is_live, live_clauses}
 use Rattle.mp_clauses.specs.Slots.{cleared}
 use Rattle.mp_store.specs.Rewriting.{changed_by, IsValid}
 use Rattle.mp_store.specs.Soundness.{IsStore}

@@ -1,8 +1,8 @@
 -- Which clauses are near newer ones, and what is known of the others.
-use Rattle.std.proofs.Common.{◌≡◌, ◌⊎◌, ℕ, ◌+◌, ◌<◌, ◌≤◌, Bool, true, false, not, List, length, get_or, set, refl, sym, ◌∙◌, ap, subst, arith, inl, inr, Contains}
+use Rattle.std.proofs.Common.{◌≡◌, ◌⊎◌, ℕ, ◌+◌, ◌<◌, ◌≤◌, Bool, true, false, not, List, length, set, refl, sym, ◌∙◌, ap, subst, arith, inl, inr, Contains}
 use Rattle.std.specs.Prelude.{Option, Some}
 use Rattle.std.proofs.lemmas.Bool.{cases_Bool, cases_eq, cases_lt, true≢false}
-use Rattle.std.proofs.lemmas.List.{get_or_default, get_or_past, length-set, get_or-set_same, get_or-set_other}
+use Rattle.std.proofs.lemmas.List.{get_or_default, get_or_past, get_or-set_other}
 use Rattle.mp_logic.specs.Literal.{Literal, negation}
 use Rattle.mp_logic.specs.Keeping.{State}
 use Rattle.mp_logic.specs.declared.instances.Repair.{Repair}
@@ -11,6 +11,8 @@ use Rattle.mp_clauses.specs.Occurrences.{AreExactOccurrences}
 use Rattle.mp_store.specs.Held.{Held}
 use Rattle.mp_store.specs.Techniques.{IsRun}
 use Rattle.mp_store.proofs.KeptFixing.{live-id}
+use Rattle.mp_resting.specs.Resting.{is_touched}
+use Rattle.mp_resting.proofs.Touching.{untouched-old}
 use Rattle.t_subsume.specs.Containment.{NoneHeldBelow}
 use Rattle.t_subsume.specs.Nearness.{IsApart, AreTouched, AreWalked, IsNear}
 use Rattle.t_subsume.specs.Shortening.{lit_at, NoneStrengthenedBelow}
@@ -18,34 +20,6 @@ use Rattle.t_subsume.specs.Strengthening.{IsNotStrengthening}
 use Rattle.t_subsume.specs.Subsumption.{IsNotSubsuming}
 use Rattle.t_subsume.specs.declared.near.Near.{Near}
 use Rattle.t_subsume.proofs.Subsuming.{live-low, same_some}
-
--- marks stay, and come
-pub marked-before : (marks : List Bool) (at i : ℕ) → get_or marks i true ≡ true → get_or (set marks at true) i true ≡ true
-marked-before marks at i h =
-    elim (cases_lt i (length marks)) [
-      | inl lt ↦ elim (cases_eq i at) [
-        | inl e ↦ rw (e, get_or-set_same marks at true true (omega (arith, lt, e))) refl
-        | inr n ↦ get_or-set_other marks at i true true n ∙ h
-      ]
-      | inr ge ↦ let long = length-set marks at true in get_or_past (set marks at true) i true (omega (arith, ge, long))
-    ]
-
-pub marked-own : (marks : List Bool) (at : ℕ) → at < length marks → get_or (set marks at true) at true ≡ true
-marked-own marks at lt = get_or-set_same marks at true true lt
-
--- of one id more, and of all
-pub ids-more : (ids : List ℕ) (n : ℕ) (old new : List Bool) → ((i : ℕ) → get_or old i true ≡ true → get_or new i true ≡ true) → ((k : ℕ) → k < n → get_or old (get_or ids k 0) true ≡ true) → get_or new (get_or ids n 0) true ≡ true → (k : ℕ) → k < n + 1 → get_or new (get_or ids k 0) true ≡ true
-ids-more ids n old new stays before own k lt =
-    elim (cases_eq k n) [
-      | inl e ↦ subst (λ i. get_or new (get_or ids i 0) true ≡ true) (sym e) own
-      | inr other ↦ stays (get_or ids k 0) (before k (omega (arith, lt, other)))
-    ]
-
-pub ids-each : (ids : List ℕ) (n : ℕ) (marks : List Bool) → length ids ≤ n → ((k : ℕ) → k < n → get_or marks (get_or ids k 0) true ≡ true) → (i : ℕ) → Contains ids i → get_or marks i true ≡ true
-ids-each ids n marks le each i m =
-    let at : get_or ids m.0 0 ≡ i = get_or_default ids m.0 0 i m.1 ∙ m.2 in
-    let lt = m.1 in
-    subst (λ k. get_or marks k true ≡ true) at (each m.0 (omega (arith, le, lt)))
 
 -- a literal of a variable is one of two
 either : (l k : Literal) → l.variable ≡ k.variable → (l ≡ k) ⊎ (l ≡ negation k)
@@ -58,17 +32,17 @@ either l k e =
     ]
 
 -- the clauses of both literals are those of the variable
-pub touched-both : (l n : Literal) (slots : List (Option (List Literal))) (own other : List ℕ) (middle marks : List Bool) → n ≡ negation l → AreExactOccurrences l slots own → AreExactOccurrences n slots other → ((i : ℕ) → Contains own i → get_or middle i true ≡ true) → ((i : ℕ) → get_or middle i true ≡ true → get_or marks i true ≡ true) → ((i : ℕ) → Contains other i → get_or marks i true ≡ true) → AreTouched l.variable marks slots
+pub touched-both : (l n : Literal) (slots : List (Option (List Literal))) (own other : List ℕ) (middle marks : List Bool) → n ≡ negation l → AreExactOccurrences l slots own → AreExactOccurrences n slots other → ((i : ℕ) → Contains own i → is_touched middle i ≡ true) → ((i : ℕ) → is_touched middle i ≡ true → is_touched marks i ≡ true) → ((i : ℕ) → Contains other i → is_touched marks i ≡ true) → AreTouched l.variable marks slots
 touched-both l n slots own other middle marks turned of-own of-other first stays second id c k e m v =
     elim (either k l v) [
       | inl s ↦ stays id (first id ((of-own.each id).1 (c, e, subst (Contains c) s m)))
       | inr s ↦ second id ((of-other.each id).1 (c, e, subst (Contains c) (s ∙ sym turned) m))
     ]
 
-pub touched-on : (v : ℕ) (old new : List Bool) (slots : List (Option (List Literal))) → ((i : ℕ) → get_or old i true ≡ true → get_or new i true ≡ true) → AreTouched v old slots → AreTouched v new slots
+pub touched-on : (v : ℕ) (old new : List Bool) (slots : List (Option (List Literal))) → ((i : ℕ) → is_touched old i ≡ true → is_touched new i ≡ true) → AreTouched v old slots → AreTouched v new slots
 touched-on v old new slots stays t id c l e m s = stays id (t id c l e m s)
 
-pub walked-on : (walked old new : List Bool) (slots : List (Option (List Literal))) → ((i : ℕ) → get_or old i true ≡ true → get_or new i true ≡ true) → AreWalked walked old slots → AreWalked walked new slots
+pub walked-on : (walked old new : List Bool) (slots : List (Option (List Literal))) → ((i : ℕ) → is_touched old i ≡ true → is_touched new i ≡ true) → AreWalked walked old slots → AreWalked walked new slots
 walked-on walked old new slots stays w v h = touched-on v old new slots stays (w v h)
 
 pub walked-more : (walked marks : List Bool) (slots : List (Option (List Literal))) (at : ℕ) → at < length walked → AreTouched at marks slots → AreWalked walked marks slots → AreWalked (set walked at true) marks slots
@@ -79,7 +53,7 @@ walked-more walked marks slots at lt own w v h =
     ]
 
 -- of one literal more, and of all
-pub lits-more : (c : List Literal) (n : ℕ) (old new : List Bool) (slots : List (Option (List Literal))) → ((i : ℕ) → get_or old i true ≡ true → get_or new i true ≡ true) → ((k : ℕ) → k < n → AreTouched (lit_at c k).variable old slots) → AreTouched (lit_at c n).variable new slots → (k : ℕ) → k < n + 1 → AreTouched (lit_at c k).variable new slots
+pub lits-more : (c : List Literal) (n : ℕ) (old new : List Bool) (slots : List (Option (List Literal))) → ((i : ℕ) → is_touched old i ≡ true → is_touched new i ≡ true) → ((k : ℕ) → k < n → AreTouched (lit_at c k).variable old slots) → AreTouched (lit_at c n).variable new slots → (k : ℕ) → k < n + 1 → AreTouched (lit_at c k).variable new slots
 lits-more c n old new slots stays before own k lt =
     elim (cases_eq k n) [
       | inl e ↦ subst (λ i. AreTouched (lit_at c i).variable new slots) (sym e) own
@@ -94,7 +68,7 @@ lits-each c n marks slots le each l m =
 
 -- one newer clause more
 abbrev pub AreApart : ℕ → ℕ → List Bool → List (Option (List Literal)) → Type 0
-AreApart from upto marks slots = (id : ℕ) (c : List Literal) → clause_of slots id ≡ Some c → get_or marks id true ≡ false → IsApart from upto slots c
+AreApart from upto marks slots = (id : ℕ) (c : List Literal) → clause_of slots id ≡ Some c → is_touched marks id ≡ false → IsApart from upto slots c
 
 pub apart-none : (from : ℕ) (marks : List Bool) (slots : List (Option (List Literal))) → AreApart from from marks slots
 apart-none from marks slots id c e f j d k l low high = absurd (omega (arith, low, high))
@@ -106,14 +80,14 @@ apart-dead from upto marks slots dead a id c e f j d k l low high at m i s =
       | inr n ↦ a id c e f j d k l low (omega (arith, high, n)) at m i s
     ]
 
-pub apart-live : (from upto : ℕ) (x : List Literal) (old new : List Bool) (slots : List (Option (List Literal))) → clause_of slots upto ≡ Some x → ((i : ℕ) → get_or old i true ≡ true → get_or new i true ≡ true) → ((l : Literal) → Contains x l → AreTouched l.variable new slots) → AreApart from upto old slots → AreApart from (upto + 1) new slots
+pub apart-live : (from upto : ℕ) (x : List Literal) (old new : List Bool) (slots : List (Option (List Literal))) → clause_of slots upto ≡ Some x → ((i : ℕ) → is_touched old i ≡ true → is_touched new i ≡ true) → ((l : Literal) → Contains x l → AreTouched l.variable new slots) → AreApart from upto old slots → AreApart from (upto + 1) new slots
 apart-live from upto x old new slots own stays touched a id c e f j d k l low high at m i s =
     elim (cases_eq j upto) [
       | inl q ↦
           let same : d ≡ x = same_some (clause_of slots upto) d x (subst (λ y. clause_of slots y ≡ Some d) q at) own in
           true≢false (sym (touched k (subst (λ y. Contains y k) same m) id c l e i s) ∙ f)
       | inr n ↦
-          elim (cases_Bool (get_or old id true)) [
+          elim (cases_Bool (is_touched old id)) [
             | inl t ↦ true≢false (sym (stays id t) ∙ f)
             | inr g ↦ a id c e g j d k l low (omega (arith, high, n)) at m i s
           ]
@@ -130,23 +104,16 @@ near-run L mark near h u n r =
       short = short;
       old = n.old;
       apart = λ id c e f j d k l low high at m i s.
-          elim (cases_lt id (length near.marks.items)) [
+          elim (cases_lt id (length near.touched)) [
             | inl lt ↦ n.apart id c (r.ids id c (omega (arith, lt, short, within)) e) f j d k l low high (r.ids j d (omega (arith, high, within)) at) m i s
-            | inr ge ↦ true≢false (sym (get_or_past near.marks.items id true ge) ∙ f)
+            | inr ge ↦ true≢false (sym (get_or_past near.touched id true ge) ∙ f)
           ];
     }
 
 -- a clause that is apart from the newer ones neither subsumes nor strengthens one
-unmarked-old : (marks : List Bool) (id : ℕ) → get_or marks id true ≡ false → id < length marks
-unmarked-old marks id f =
-    elim (cases_lt id (length marks)) [
-      | inl lt ↦ lt
-      | inr ge ↦ absurd (true≢false (sym (get_or_past marks id true ge) ∙ f))
-    ]
-
-pub apart-subsumes-none : (h : Held) (mark : ℕ) (near : Near) (id : ℕ) → ((c : List Literal) → clause_of h.slots id ≡ Some c → 0 < length c) → NoneHeldBelow mark h.slots → IsNear mark near h.slots → length h.slots ≤ near.upto → get_or near.marks.items id true ≡ false → IsNotSubsuming h.slots id
+pub apart-subsumes-none : (h : Held) (mark : ℕ) (near : Near) (id : ℕ) → ((c : List Literal) → clause_of h.slots id ≡ Some c → 0 < length c) → NoneHeldBelow mark h.slots → IsNear mark near h.slots → length h.slots ≤ near.upto → is_touched near.touched id ≡ false → IsNotSubsuming h.slots id
 apart-subsumes-none h mark near id some none n all f c e j d at other m =
-    let lt = unmarked-old near.marks.items id f in
+    let lt = untouched-old near.touched id f in
     let old = n.old in
     elim (cases_lt j mark) [
       | inl below ↦ none.none id c (omega (arith, lt, old)) e j d below at other m
@@ -156,9 +123,9 @@ apart-subsumes-none h mark near id some none n all f c e j d at other m =
           n.apart id c e f j d (lit_at c 0) (lit_at c 0) above (omega (arith, high, all)) at (m (lit_at c 0) first) first refl
     ]
 
-pub apart-strengthens-none : (h : Held) (mark : ℕ) (near : Near) (id : ℕ) → NoneStrengthenedBelow mark h.slots → IsNear mark near h.slots → length h.slots ≤ near.upto → get_or near.marks.items id true ≡ false → IsNotStrengthening h.slots id
+pub apart-strengthens-none : (h : Held) (mark : ℕ) (near : Near) (id : ℕ) → NoneStrengthenedBelow mark h.slots → IsNear mark near h.slots → length h.slots ≤ near.upto → is_touched near.touched id ≡ false → IsNotStrengthening h.slots id
 apart-strengthens-none h mark near id none n all f c e d l live i s =
-    let lt = unmarked-old near.marks.items id f in
+    let lt = untouched-old near.touched id f in
     let old = n.old in
     let at = live-id h.slots d live in
     elim (cases_lt at.0 mark) [

@@ -12,8 +12,8 @@ loop-lit-preserved c =
       len = c.touch_variable.ensures.len ∙ c.loop-lit.invariant.len;
       walked = c.touch_variable.ensures.walked;
       before = λ i m. c.touch_variable.ensures.before i (c.loop-lit.invariant.before i m);
-      own = lits-more c.args.clause.now c.loop-lit.lit-index c.loop-lit.marks.items c.touch_variable.new.marks.items c.args.store.now.slots c.touch_variable.ensures.before c.loop-lit.invariant.own (subst (λ (k : Literal). AreTouched k.variable c.touch_variable.new.marks.items c.args.store.now.slots) (sym at) c.touch_variable.ensures.own);
+      own = lits-more c.args.clause.now c.loop-lit.lit-index c.loop-lit.touched c.touch_variable.new.touched c.args.store.now.slots c.touch_variable.ensures.before c.loop-lit.invariant.own (subst (λ (k : Literal). AreTouched k.variable c.touch_variable.new.touched c.args.store.now.slots) (sym at) c.touch_variable.ensures.own);
     }
 
 pub returns-clause-own : goal.returns-clause-own
-returns-clause-own c = lits-each c.args.clause.now c.loop-lit.lit-index c.loop-lit.marks.items c.args.store.now.slots c.loop-lit-test.false c.loop-lit.invariant.own
+returns-clause-own c = lits-each c.args.clause.now c.loop-lit.lit-index c.loop-lit.touched c.args.store.now.slots c.loop-lit-test.false c.loop-lit.invariant.own

@@ -12,16 +12,16 @@ returns-then-is_marked-clause-own c =
 pub returns-then-place-len-clause-walked : goal.returns-then-place-len-clause-walked
 returns-then-place-len-clause-walked c =
     let same = ap (λ (l : Literal). l.variable) c.lit.view_is in
-    let own = touched-both c.args.lit c.negated.result c.args.store.now.slots c.occurrences.result.now c.occurrences-2.result.now c.touch.new.marks.items c.touch-2.new.marks.items c.negated.ensures c.occurrences.ensures.exact c.occurrences-2.ensures.exact c.touch.ensures.own c.touch-2.ensures.before c.touch-2.ensures.own in
-    let before = walked-on c.args.walked.now.items c.args.marks.now.items c.touch-2.new.marks.items c.args.store.now.slots (λ i m. c.touch-2.ensures.before i (c.touch.ensures.before i m)) c.requires.walked in
+    let own = touched-both c.args.lit c.negated.result c.args.store.now.slots c.occurrences.result.now c.occurrences-2.result.now c.touch.new.self c.touch-2.new.self c.negated.ensures c.occurrences.ensures.exact c.occurrences-2.ensures.exact c.touch.ensures.own c.touch-2.ensures.before c.touch-2.ensures.own in
+    let before = walked-on c.args.walked.now.items c.args.touched.now c.touch-2.new.self c.args.store.now.slots (λ i m. c.touch-2.ensures.before i (c.touch.ensures.before i m)) c.requires.walked in
     let lt = c.if-place-len.true in
-    subst (λ v. AreWalked (set c.args.walked.now.items v true) c.touch-2.new.marks.items c.args.store.now.slots) (sym same) (walked-more c.args.walked.now.items c.touch-2.new.marks.items c.args.store.now.slots c.args.lit.variable (omega (arith, lt, same, c.len.ensures)) own before)
+    subst (λ v. AreWalked (set c.args.walked.now.items v true) c.touch-2.new.self c.args.store.now.slots) (sym same) (walked-more c.args.walked.now.items c.touch-2.new.self c.args.store.now.slots c.args.lit.variable (omega (arith, lt, same, c.len.ensures)) own before)
 
 pub returns-then-place-len-clause-own : goal.returns-then-place-len-clause-own
-returns-then-place-len-clause-own c = touched-both c.args.lit c.negated.result c.args.store.now.slots c.occurrences.result.now c.occurrences-2.result.now c.touch.new.marks.items c.touch-2.new.marks.items c.negated.ensures c.occurrences.ensures.exact c.occurrences-2.ensures.exact c.touch.ensures.own c.touch-2.ensures.before c.touch-2.ensures.own
+returns-then-place-len-clause-own c = touched-both c.args.lit c.negated.result c.args.store.now.slots c.occurrences.result.now c.occurrences-2.result.now c.touch.new.self c.touch-2.new.self c.negated.ensures c.occurrences.ensures.exact c.occurrences-2.ensures.exact c.touch.ensures.own c.touch-2.ensures.before c.touch-2.ensures.own
 
 pub returns-else-place-len-clause-walked : goal.returns-else-place-len-clause-walked
-returns-else-place-len-clause-walked c = walked-on c.args.walked.now.items c.args.marks.now.items c.touch-2.new.marks.items c.args.store.now.slots (λ i m. c.touch-2.ensures.before i (c.touch.ensures.before i m)) c.requires.walked
+returns-else-place-len-clause-walked c = walked-on c.args.walked.now.items c.args.touched.now c.touch-2.new.self c.args.store.now.slots (λ i m. c.touch-2.ensures.before i (c.touch.ensures.before i m)) c.requires.walked
 
 pub returns-else-place-len-clause-own : goal.returns-else-place-len-clause-own
-returns-else-place-len-clause-own c = touched-both c.args.lit c.negated.result c.args.store.now.slots c.occurrences.result.now c.occurrences-2.result.now c.touch.new.marks.items c.touch-2.new.marks.items c.negated.ensures c.occurrences.ensures.exact c.occurrences-2.ensures.exact c.touch.ensures.own c.touch-2.ensures.before c.touch-2.ensures.own
+returns-else-place-len-clause-own c = touched-both c.args.lit c.negated.result c.args.store.now.slots c.occurrences.result.now c.occurrences-2.result.now c.touch.new.self c.touch-2.new.self c.negated.ensures c.occurrences.ensures.exact c.occurrences-2.ensures.exact c.touch.ensures.own c.touch-2.ensures.before c.touch-2.ensures.own

@@ -16,20 +16,20 @@ loop-id-preserved c =
     let lt : c.loop-id.id < length slots = omega (arith, c.loop-id-test.true, c.next_id-upto.ensures) in
     elim c.if-live.branch [
       | then-live w ↦
-          rw (w.marks-is, w.walked-is)
+          rw (w.touched-is, w.walked-is)
           (record {
             within = omega (arith, lt);
             len = w.touch_clause.ensures.len ∙ c.loop-id.invariant.len;
             walked = w.touch_clause.ensures.walked;
-            apart = apart-live from c.loop-id.id w.clause.result.now c.loop-id.marks.items w.touch_clause.new.marks.items slots (sym w.clause.ensures) w.touch_clause.ensures.before w.touch_clause.ensures.own c.loop-id.invariant.apart;
+            apart = apart-live from c.loop-id.id w.clause.result.now c.loop-id.touched w.touch_clause.new.touched slots (sym w.clause.ensures) w.touch_clause.ensures.before w.touch_clause.ensures.own c.loop-id.invariant.apart;
           })
       | else-live w ↦
-          rw (w.marks-is, w.walked-is)
+          rw (w.touched-is, w.walked-is)
           (record {
             within = omega (arith, lt);
             len = c.loop-id.invariant.len;
             walked = c.loop-id.invariant.walked;
-            apart = apart-dead from c.loop-id.id c.loop-id.marks.items slots (λ d e. true≢false (sym (ap is_some e) ∙ sym c.live.ensures ∙ w.if-live.false)) c.loop-id.invariant.apart;
+            apart = apart-dead from c.loop-id.id c.loop-id.touched slots (λ d e. true≢false (sym (ap is_some e) ∙ sym c.live.ensures ∙ w.if-live.false)) c.loop-id.invariant.apart;
           })
     ]
 

@@ -6,7 +6,7 @@ use Rattle.t_subsume.proofs.near.Near.since.Given as goal
 abbrev pub invariant-loop-id : goal.invariant-loop-id
 invariant-loop-id l = record {
   within : l.id ≤ length l.store.slots;
-  len : length l.marks.items ≡ l.from;
-  walked : AreWalked l.walked.items l.marks.items l.store.slots;
-  apart : AreApart l.from l.id l.marks.items l.store.slots;
+  len : length l.touched ≡ l.from;
+  walked : AreWalked l.walked.items l.touched l.store.slots;
+  apart : AreApart l.from l.id l.touched l.store.slots;
 }
